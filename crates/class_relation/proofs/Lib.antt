@@ -1,0 +1,4 @@
+pub mod Spelling
+pub mod Members
+pub mod RowLemmas
+pub mod CellsFit

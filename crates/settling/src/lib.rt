@@ -1,0 +1,2 @@
+//! How the arbitration lines settle, as definitions that contracts cite.
+#![tactic(auto)]

@@ -1,0 +1,247 @@
+//! Writing a table.
+
+ghost use Rattle.std.specs.Prelude.{◌≡◌, ◌<◌, ◌≤◌, ◌+◌, ◌*◌, ◌++◌, ◌∷◌, [], length, codes, OnOk, OnErr};
+ghost use Rattle.fb_text.specs.Written.{after_words, line_bytes, lines_bytes};
+ghost use Rattle.class_relation.specs.Tables.{locals_of, answers_of};
+ghost use Rattle.table_text.specs.Words.{state_word, local_event_word, bus_event_word, outcome_word};
+ghost use Rattle.table_text.specs.Spelling.{local_words, snoop_words, signal_words, alternative_words, cell_words, local, answer};
+ghost use Rattle.table_text.specs.Writing.{local_line, snoop_line, state_lines, cells_of, cells_bytes, written_table, IsProper};
+
+use bus_signals::{BusEvent, LocalEvent};
+use class_relation::{LocalAction, SnoopAction, Table};
+use moesi_state::{Outcome, State};
+use fb_text::{NoMemory, Text};
+
+fn state_text(state: State) -> &'static str
+    ensures text { result.now ≡ state_word state }
+    ensures short { length result.now ≡ 1 }
+{
+    match state {
+        State::M => "M",
+        State::O => "O",
+        State::E => "E",
+        State::S => "S",
+        State::I => "I",
+    }
+}
+
+fn local_event_text(event: LocalEvent) -> &'static str
+    ensures text { result.now ≡ local_event_word event }
+    ensures short { length result.now ≤ 5 }
+{
+    match event {
+        LocalEvent::Read => "read",
+        LocalEvent::Write => "write",
+        LocalEvent::Pass => "pass",
+        LocalEvent::Flush => "flush",
+    }
+}
+
+fn bus_event_text(event: BusEvent) -> &'static str
+    ensures text { result.now ≡ bus_event_word event }
+    ensures short { length result.now ≤ 3 }
+{
+    match event {
+        BusEvent::Rd => "rd",
+        BusEvent::Rfo => "rfo",
+        BusEvent::Inv => "inv",
+        BusEvent::Urd => "urd",
+        BusEvent::Bwr => "bwr",
+        BusEvent::Uwr => "uwr",
+        BusEvent::Ubw => "ubw",
+        BusEvent::Pas => "pas",
+        BusEvent::Flu => "flu",
+    }
+}
+
+/// A word behind a space.
+fn word(text: &mut Text, word: &str)
+    requires { length word.now < text.old.spare }
+    ensures bytes { text.new.bytes ≡ text.old.bytes ++ 32 ∷ word.now }
+    ensures spare { text.old.spare ≤ text.new.spare + length word.now + 1 }
+{
+    text.push(b" ");
+    text.push(word.as_bytes());
+}
+
+/// A word of one byte behind a space.
+fn mark(text: &mut Text, mark: u8)
+    requires { 2 ≤ text.old.spare }
+    ensures bytes { text.new.bytes ≡ text.old.bytes ++ 32 ∷ mark ∷ [] }
+    ensures spare { text.old.spare ≤ text.new.spare + 2 }
+{
+    text.push(&[b' ', mark]);
+}
+
+fn outcome(text: &mut Text, outcome: Outcome)
+    requires { 7 ≤ text.old.spare }
+    ensures bytes { text.new.bytes ≡ text.old.bytes ++ 32 ∷ outcome_word outcome }
+    ensures spare { text.old.spare ≤ text.new.spare + 7 }
+{
+    match outcome {
+        Outcome::Fixed(state) => word(text, state_text(state)),
+        Outcome::OnHit { hit, miss } => {
+            text.push(b" CH:");
+            text.push(state_text(hit).as_bytes());
+            text.push(b"/");
+            text.push(state_text(miss).as_bytes());
+        }
+    }
+}
+
+fn local_action(text: &mut Text, action: LocalAction)
+    requires { 11 ≤ text.old.spare }
+    ensures bytes { text.new.bytes ≡ text.old.bytes ++ after_words (local_words action) }
+    ensures spare { text.old.spare ≤ text.new.spare + 11 }
+{
+    outcome(text, action.result);
+    match action.bus {
+        Some(event) => word(text, bus_event_text(event)),
+        None => {}
+    }
+}
+
+fn signal(text: &mut Text, holds: bool, name: &str)
+    requires room { 3 ≤ text.old.spare }
+    requires short { length name.now ≡ 2 }
+    ensures bytes { text.new.bytes ≡ text.old.bytes ++ after_words (signal_words holds name.now) }
+    ensures spare { text.old.spare ≤ text.new.spare + 3 }
+{
+    if holds {
+        word(text, name);
+    }
+}
+
+fn snoop_action(text: &mut Text, action: SnoopAction)
+    requires { 11 ≤ text.old.spare }
+    ensures bytes { text.new.bytes ≡ text.old.bytes ++ after_words (snoop_words action) }
+    ensures spare { text.old.spare ≤ text.new.spare + 11 }
+{
+    word(text, state_text(action.result));
+    signal(text, action.response.ch, "CH");
+    signal(text, action.response.di, "DI");
+    signal(text, action.response.sl, "SL");
+}
+
+/// The `=` and the alternatives of a local cell.
+fn local_alternatives(text: &mut Text, alternatives: &[LocalAction])
+    requires some { 0 < length alternatives.now }
+    requires room { 13 * length alternatives.now ≤ text.old.spare }
+    ensures bytes { text.new.bytes ≡ text.old.bytes ++ after_words (codes "=" ∷ alternative_words local_words alternatives.now) }
+    ensures spare { text.old.spare ≤ text.new.spare + 13 * length alternatives.now }
+{
+    let mut lead = b'=';
+    for action in alternatives {
+        mark(text, lead);
+        local_action(text, *action);
+        lead = b'|';
+    }
+}
+
+/// The `=` and the alternatives of an answer cell.
+fn snoop_alternatives(text: &mut Text, alternatives: &[SnoopAction])
+    requires some { 0 < length alternatives.now }
+    requires room { 13 * length alternatives.now ≤ text.old.spare }
+    ensures bytes { text.new.bytes ≡ text.old.bytes ++ after_words (codes "=" ∷ alternative_words snoop_words alternatives.now) }
+    ensures spare { text.old.spare ≤ text.new.spare + 13 * length alternatives.now }
+{
+    let mut lead = b'=';
+    for action in alternatives {
+        mark(text, lead);
+        snoop_action(text, *action);
+        lead = b'|';
+    }
+}
+
+/// The line of a local cell, where it has alternatives.
+fn local_line(text: &mut Text, table: &Table, state: State, event: LocalEvent)
+    requires { 256 ≤ text.old.spare }
+    ensures bytes { text.new.bytes ≡ text.old.bytes ++ cells_bytes (local_line table.now state event) }
+    ensures spare { text.old.spare ≤ text.new.spare + 256 }
+{
+    let alternatives = table.local(state, event);
+    if alternatives.is_empty() {
+        return;
+    }
+    text.push(state_text(state).as_bytes());
+    word(text, local_event_text(event));
+    local_alternatives(text, alternatives);
+    text.push(b"\n");
+}
+
+/// The line of an answer cell, where it has alternatives.
+fn snoop_line(text: &mut Text, table: &Table, state: State, event: BusEvent)
+    requires { 256 ≤ text.old.spare }
+    ensures bytes { text.new.bytes ≡ text.old.bytes ++ cells_bytes (snoop_line table.now state event) }
+    ensures spare { text.old.spare ≤ text.new.spare + 256 }
+{
+    let alternatives = table.snoop(state, event);
+    if alternatives.is_empty() {
+        return;
+    }
+    text.push(state_text(state).as_bytes());
+    word(text, bus_event_text(event));
+    snoop_alternatives(text, alternatives);
+    text.push(b"\n");
+}
+
+/// The lines of a state.
+fn state_lines(text: &mut Text, table: &Table, state: State)
+    requires { 3328 ≤ text.old.spare }
+    ensures bytes { text.new.bytes ≡ text.old.bytes ++ cells_bytes (state_lines table.now state) }
+    ensures spare { text.old.spare ≤ text.new.spare + 3328 }
+{
+    local_line(text, table, state, LocalEvent::Read);
+    local_line(text, table, state, LocalEvent::Write);
+    local_line(text, table, state, LocalEvent::Pass);
+    local_line(text, table, state, LocalEvent::Flush);
+    snoop_line(text, table, state, BusEvent::Rd);
+    snoop_line(text, table, state, BusEvent::Rfo);
+    snoop_line(text, table, state, BusEvent::Inv);
+    snoop_line(text, table, state, BusEvent::Urd);
+    snoop_line(text, table, state, BusEvent::Bwr);
+    snoop_line(text, table, state, BusEvent::Uwr);
+    snoop_line(text, table, state, BusEvent::Ubw);
+    snoop_line(text, table, state, BusEvent::Pas);
+    snoop_line(text, table, state, BusEvent::Flu);
+}
+
+fn all_lines(text: &mut Text, table: &Table)
+    requires { 16640 ≤ text.old.spare }
+    ensures bytes { text.new.bytes ≡ text.old.bytes ++ cells_bytes (cells_of table.now) }
+    ensures spare { text.old.spare ≤ text.new.spare + 16640 }
+{
+    state_lines(text, table, State::M);
+    state_lines(text, table, State::O);
+    state_lines(text, table, State::E);
+    state_lines(text, table, State::S);
+    state_lines(text, table, State::I);
+}
+
+/// The room that any table fits in.
+const ROOM: usize = 16700;
+
+/// Appends the one written spelling of a table.
+pub fn write_table(table: &Table, text: &mut Text) -> Result<(), NoMemory>
+    ensures proper { OnOk result (IsProper table.now) }
+    ensures written { OnOk result (text.new.bytes ≡ text.old.bytes ++ written_table table.now) }
+    ensures err { OnErr result (text.new ≡ text.old) }
+{
+    text.reserve(ROOM)?;
+    head(text, table);
+    all_lines(text, table);
+    text.push(b"end\n");
+    Ok(())
+}
+
+fn head(text: &mut Text, table: &Table)
+    requires { 39 ≤ text.old.spare }
+    ensures proper { IsProper table.now }
+    ensures bytes { text.new.bytes ≡ text.old.bytes ++ line_bytes (codes "table" ∷ table.now.name ∷ []) }
+    ensures spare { text.old.spare ≤ text.new.spare + 39 }
+{
+    let name = table.name();
+    text.push(b"table ");
+    text.push(name.bytes());
+    text.push(b"\n");
+}
