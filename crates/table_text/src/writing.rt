@@ -2,15 +2,15 @@
 
 ghost use Rattle.std.specs.Prelude.{◌≡◌, ◌<◌, ◌≤◌, ◌+◌, ◌*◌, ◌++◌, ◌∷◌, [], length, codes, OnOk, OnErr};
 ghost use Rattle.fb_text.specs.Written.{after_words, line_bytes, lines_bytes};
-ghost use Rattle.class_relation.specs.Tables.{locals_of, answers_of};
+ghost use Rattle.class_relation.specs.Tables.{IsWhole, locals_of, answers_of};
 ghost use Rattle.table_text.specs.Words.{state_word, local_event_word, bus_event_word, outcome_word};
 ghost use Rattle.table_text.specs.Spelling.{local_words, snoop_words, signal_words, alternative_words, cell_words, local, answer};
-ghost use Rattle.table_text.specs.Writing.{local_line, snoop_line, state_lines, cells_of, cells_bytes, written_table, IsProper};
+ghost use Rattle.table_text.specs.Writing.{local_line, snoop_line, state_lines, cells_of, cells_bytes, written_table};
 
 use bus_signals::{BusEvent, LocalEvent};
 use class_relation::{LocalAction, SnoopAction, Table};
-use moesi_state::{Outcome, State};
 use fb_text::{NoMemory, Text};
+use moesi_state::{Outcome, State};
 
 fn state_text(state: State) -> &'static str
     ensures text { result.now ≡ state_word state }
@@ -223,7 +223,7 @@ const ROOM: usize = 16700;
 
 /// Appends the one written spelling of a table.
 pub fn write_table(table: &Table, text: &mut Text) -> Result<(), NoMemory>
-    ensures proper { OnOk result (IsProper table.now) }
+    ensures whole { OnOk result (IsWhole table.now) }
     ensures written { OnOk result (text.new.bytes ≡ text.old.bytes ++ written_table table.now) }
     ensures err { OnErr result (text.new ≡ text.old) }
 {
@@ -236,7 +236,7 @@ pub fn write_table(table: &Table, text: &mut Text) -> Result<(), NoMemory>
 
 fn head(text: &mut Text, table: &Table)
     requires { 39 ≤ text.old.spare }
-    ensures proper { IsProper table.now }
+    ensures whole { IsWhole table.now }
     ensures bytes { text.new.bytes ≡ text.old.bytes ++ line_bytes (codes "table" ∷ table.now.name ∷ []) }
     ensures spare { text.old.spare ≤ text.new.spare + 39 }
 {

@@ -1,5 +1,5 @@
 -- What is read on a line is what is written there.
-use Rattle.std.proofs.Common.{◌≡◌, ℕ, zero, suc, ◌<◌, ◌+◌, ◌≤◌, ◌⊎◌, inl, inr, Bool, true, false, cond, eqb, ◌&&◌, List, [], ◌∷◌, ◌++◌, length, take, drop, Option, Some, None, Result, Ok, Err, refl, sym, ap, subst, ◌∙◌, append_assoc, arith}
+use Rattle.std.proofs.Common.{◌≡◌, ℕ, Bool, true, false, cond, eqb, ◌&&◌, List, [], ◌∷◌, ◌++◌, length, take, drop, Option, Some, None, Result, Ok, Err, refl, sym, ap, subst, ◌∙◌, append_assoc, arith}
 use Rattle.std.specs.Prelude.{codes}
 use Rattle.std.proofs.lemmas.Bool.{eqb-true}
 use Rattle.std.specs.Option.{option_map}
@@ -11,12 +11,11 @@ use Rattle.moesi_state.specs.declared.Outcome.{Outcome}
 use Rattle.moesi_state.specs.declared.Outcome.TheVariants.{Fixed, OnHit}
 use Rattle.class_relation.specs.declared.LocalAction.{LocalAction}
 use Rattle.class_relation.specs.declared.SnoopAction.{SnoopAction}
-use Rattle.class_relation.specs.Tables.{Table}
 use Rattle.table_text.specs.declared.fault.TableKind.{TableKind}
 use Rattle.table_text.specs.Words.{state_word, bus_event_word, outcome_word, state_of, bus_event_of, outcome_of, on_hit, is_on_hit}
 use Rattle.fb_text.specs.Places.{Words}
-use Rattle.table_text.specs.Reading.{◌>>=◌, spelled_by, word_by, this_word, bar_or_end, local_action, bus_event_at, local_rest, local_at, signal_at, snoop_rest, snoop_at, alternatives, no_room, response}
-use Rattle.table_text.specs.Spelling.{bar, bus_words, local_words, signal_words, snoop_words, alternative_words}
+use Rattle.table_text.specs.Reading.{◌>>=◌, spelled_by, word_by, bar_or_end, local_action, bus_event_at, local_rest, local_at, signal_at, snoop_rest, snoop_at, response}
+use Rattle.table_text.specs.Spelling.{bar, local_words, signal_words, snoop_words}
 use Rattle.table_text.proofs.WordLaws.{state_is, bus_event_is}
 
 -- the value of a step that did not fail
