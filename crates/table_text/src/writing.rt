@@ -12,7 +12,8 @@ use class_relation::{LocalAction, SnoopAction, Table};
 use fb_text::{NoMemory, Text};
 use moesi_state::{Outcome, State};
 
-fn state_text(state: State) -> &'static str
+/// The word of a state.
+pub fn state_text(state: State) -> &'static str
     ensures text { result.now ≡ state_word state }
     ensures short { length result.now ≡ 1 }
 {
@@ -25,7 +26,8 @@ fn state_text(state: State) -> &'static str
     }
 }
 
-fn local_event_text(event: LocalEvent) -> &'static str
+/// The word of a local event.
+pub fn local_event_text(event: LocalEvent) -> &'static str
     ensures text { result.now ≡ local_event_word event }
     ensures short { length result.now ≤ 5 }
 {
@@ -37,7 +39,8 @@ fn local_event_text(event: LocalEvent) -> &'static str
     }
 }
 
-fn bus_event_text(event: BusEvent) -> &'static str
+/// The word of a bus event.
+pub fn bus_event_text(event: BusEvent) -> &'static str
     ensures text { result.now ≡ bus_event_word event }
     ensures short { length result.now ≤ 3 }
 {
@@ -89,7 +92,8 @@ fn outcome(text: &mut Text, outcome: Outcome)
     }
 }
 
-fn local_action(text: &mut Text, action: LocalAction)
+/// Appends an alternative of a local event, each of its words behind a space. It has at most 11 bytes.
+pub fn write_local_action(action: LocalAction, text: &mut Text)
     requires { 11 ≤ text.old.spare }
     ensures bytes { text.new.bytes ≡ text.old.bytes ++ after_words (local_words action) }
     ensures spare { text.old.spare ≤ text.new.spare + 11 }
@@ -112,7 +116,8 @@ fn signal(text: &mut Text, holds: bool, name: &str)
     }
 }
 
-fn snoop_action(text: &mut Text, action: SnoopAction)
+/// Appends an answer, each of its words behind a space. It has at most 11 bytes.
+pub fn write_answer(action: SnoopAction, text: &mut Text)
     requires { 11 ≤ text.old.spare }
     ensures bytes { text.new.bytes ≡ text.old.bytes ++ after_words (snoop_words action) }
     ensures spare { text.old.spare ≤ text.new.spare + 11 }
@@ -133,7 +138,7 @@ fn local_alternatives(text: &mut Text, alternatives: &[LocalAction])
     let mut lead = b'=';
     for action in alternatives {
         mark(text, lead);
-        local_action(text, *action);
+        write_local_action(*action, text);
         lead = b'|';
     }
 }
@@ -148,7 +153,7 @@ fn snoop_alternatives(text: &mut Text, alternatives: &[SnoopAction])
     let mut lead = b'=';
     for action in alternatives {
         mark(text, lead);
-        snoop_action(text, *action);
+        write_answer(*action, text);
         lead = b'|';
     }
 }
