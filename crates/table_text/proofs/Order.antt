@@ -80,9 +80,9 @@ local_leads t m s e p n at [] h = record {
   enters = ap (λ (v : List (List LocalAction)). record { name = t.name; locals = v; answers = partly m t.answers }) (skip_there n t.locals h ∙ ap (λ (k : ℕ). partly k t.locals) (omega arith));
 }
 local_leads t m s e p n at (a ∷ more) h = record {
-  stand = ((ap (λ (k : ℕ). get_or (partly n t.locals) k []) at ∙ free_there n t.locals, omega arith, (let few = fits-at t.locals n p.few_locals in omega (arith, few, ap length h))), tt);
+  stand = ((ap (λ (k : ℕ). get_or (partly n t.locals) k []) at ∙ free_there n t.locals, omega arith, (let few = fits-at t.locals n p.cells.few_locals in omega (arith, few, ap length h))), tt);
   enters = ap (λ (v : List (List LocalAction)). record { name = t.name; locals = v; answers = partly m t.answers })
-      (ap (λ (k : ℕ). slice_set (partly n t.locals) k (a ∷ more)) at ∙ (ap (λ (v : List LocalAction). slice_set (partly n t.locals) n v) (sym h) ∙ (set_there n t.locals (omega (arith, place_local s e, p.all_locals, at)) ∙ ap (λ (k : ℕ). partly k t.locals) (omega arith))));
+      (ap (λ (k : ℕ). slice_set (partly n t.locals) k (a ∷ more)) at ∙ (ap (λ (v : List LocalAction). slice_set (partly n t.locals) n v) (sym h) ∙ (set_there n t.locals (omega (arith, place_local s e, p.cells.locals, at)) ∙ ap (λ (k : ℕ). partly k t.locals) (omega arith))));
 }
 
 snoop_leads : (t : Table) (n : ℕ) (s : State) (e : BusEvent) → IsWhole t → (m : ℕ) → answer_cell s e ≡ m → (alts : List SnoopAction) → get_or t.answers m [] ≡ alts → Leads t n m n (m + 1) (snoop_given s e alts)
@@ -92,9 +92,9 @@ snoop_leads t n s e p m at [] h = record {
   enters = ap (λ (v : List (List SnoopAction)). record { name = t.name; locals = partly n t.locals; answers = v }) (skip_there m t.answers h ∙ ap (λ (k : ℕ). partly k t.answers) (omega arith));
 }
 snoop_leads t n s e p m at (a ∷ more) h = record {
-  stand = ((ap (λ (k : ℕ). get_or (partly m t.answers) k []) at ∙ free_there m t.answers, omega arith, (let few = fits-at t.answers m p.few_answers in omega (arith, few, ap length h))), tt);
+  stand = ((ap (λ (k : ℕ). get_or (partly m t.answers) k []) at ∙ free_there m t.answers, omega arith, (let few = fits-at t.answers m p.cells.few_answers in omega (arith, few, ap length h))), tt);
   enters = ap (λ (v : List (List SnoopAction)). record { name = t.name; locals = partly n t.locals; answers = v })
-      (ap (λ (k : ℕ). slice_set (partly m t.answers) k (a ∷ more)) at ∙ (ap (λ (v : List SnoopAction). slice_set (partly m t.answers) m v) (sym h) ∙ (set_there m t.answers (omega (arith, place_snoop s e, p.all_answers, at)) ∙ ap (λ (k : ℕ). partly k t.answers) (omega arith))));
+      (ap (λ (k : ℕ). slice_set (partly m t.answers) k (a ∷ more)) at ∙ (ap (λ (v : List SnoopAction). slice_set (partly m t.answers) m v) (sym h) ∙ (set_there m t.answers (omega (arith, place_snoop s e, p.cells.answers, at)) ∙ ap (λ (k : ℕ). partly k t.answers) (omega arith))));
 }
 
 one_local : (t : Table) (m : ℕ) (s : State) (e : LocalEvent) (n i : ℕ) → IsWhole t → local_cell s e ≡ n → i ≡ n + 1 → Leads t n m i m (local_line t s e)
@@ -136,11 +136,11 @@ cells_lead t p =
 
 stage_first : (t : Table) → IsWhole t → stage t 0 0 ≡ empty_table t.name
 unfolding stage
-stage_first t p = rw (none_yet 20 t.locals p.all_locals, none_yet 45 t.answers p.all_answers) refl
+stage_first t p = rw (none_yet 20 t.locals p.cells.locals, none_yet 45 t.answers p.cells.answers) refl
 
 stage_last : (t : Table) → IsWhole t → stage t 20 45 ≡ t
 unfolding stage
-stage_last t p = rw (all_there 20 t.locals p.all_locals, all_there 45 t.answers p.all_answers) refl
+stage_last t p = rw (all_there 20 t.locals p.cells.locals, all_there 45 t.answers p.cells.answers) refl
 
 pub cells_stand : (t : Table) → IsWhole t → AllStand (empty_table t.name) (cells_of t)
 cells_stand t p = let h = cells_lead t p in subst (λ (u : Table). AllStand u (cells_of t)) (stage_first t p) h.stand
