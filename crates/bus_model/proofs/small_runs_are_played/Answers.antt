@@ -1,0 +1,30 @@
+use Rattle.bus_model.proofs.WorkedRuns
+use Rattle.bus_model.proofs.WorkedRoom
+use Rattle.bus_model.proofs.small_runs_are_played.Goals as goal
+
+pub returns-clause-intervention : goal.returns-clause-intervention
+returns-clause-intervention c = WorkedRuns.intervention_plays
+
+pub returns-clause-broadcast : goal.returns-clause-broadcast
+returns-clause-broadcast c = WorkedRuns.broadcast_plays
+
+pub returns-clause-no_hit : goal.returns-clause-no_hit
+returns-clause-no_hit c = WorkedRuns.no_hit_plays
+
+pub returns-clause-gap : goal.returns-clause-gap
+returns-clause-gap c = WorkedRuns.gap_plays
+
+pub returns-clause-quiet_read : goal.returns-clause-quiet_read
+returns-clause-quiet_read c = WorkedRuns.quiet_read_plays
+
+pub returns-clause-write_through_word : goal.returns-clause-write_through_word
+returns-clause-write_through_word c = WorkedRoom.write_through_word_plays
+
+pub returns-clause-victim_flush : goal.returns-clause-victim_flush
+returns-clause-victim_flush c = WorkedRoom.victim_flush_plays
+
+pub returns-clause-given_up : goal.returns-clause-given_up
+returns-clause-given_up c = WorkedRoom.given_up_plays
+
+pub returns-clause-alternation : goal.returns-clause-alternation
+returns-clause-alternation c = WorkedRoom.alternation_plays
