@@ -1,17 +1,17 @@
 -- The answers, board by board.
-use Rattle.std.proofs.Common.{◌≡◌, ℕ, zero, suc, ◌+◌, ◌<◌, ◌≤◌, Bool, true, false, cond, not, List, [], ◌∷◌, ◌++◌, length, map, take, refl, ap, sym, ◌∙◌, arith, add-one, inl, inr}
+use Rattle.std.proofs.Common.{◌≡◌, ℕ, zero, suc, ◌+◌, ◌<◌, ◌≤◌, Bool, true, false, cond, List, [], ◌∷◌, ◌++◌, length, map, take, refl, ap, sym, ◌∙◌, arith, add-one, inl, inr}
 use Rattle.std.proofs.lemmas.Bool.{cases_lt}
 use Rattle.std.specs.Prelude.{filter}
 use Rattle.std.proofs.lemmas.List.{map-append, take_all}
 use Rattle.std.proofs.lemmas.List.Elements.{filter-append}
 use Rattle.bus_signals.specs.declared.BusEvent.{BusEvent}
 use Rattle.bus_model.specs.Places.{places_from}
-use Rattle.bus_model.specs.Setup.{board_places, BoardSpec}
+use Rattle.bus_model.specs.Setup.{BoardSpec}
 use Rattle.bus_model.specs.Connecting.{other_holders}
 use Rattle.bus_model.specs.Events.{Answer}
 use Rattle.journal.specs.Rising.{IsAboveLast}
 use Rattle.journal.specs.Boards.{answer_boards}
-use Rattle.board.specs.Rack.{Rack, IsBoard, setup_of}
+use Rattle.board.specs.Rack.{Rack, setup_of}
 use Rattle.connect_phase.specs.Answering.{answer_from, is_other_holder, holders_among, AllBelow, AllAreBoards}
 
 pub above-last : (xs : List ℕ) (n : ℕ) → AllBelow n xs → IsAboveLast xs n

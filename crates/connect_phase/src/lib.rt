@@ -2,15 +2,18 @@
 #![tactic(auto)]
 
 ghost use Rattle.std.specs.Prelude.{◌≡◌, ◌≢◌, ◌^◌, ◌+◌, ◌<◌, ◌≤◌, suc, [], ◌∷◌, ◌++◌, map, filter, length};
+ghost use Rattle.bus_model.specs.Configuration.{Configuration};
+ghost use Rattle.bus_model.specs.Turns.{transaction_of};
 ghost use Rattle.bus_model.specs.Connecting.{AnswersFit, other_holders, responses, intervener};
 ghost use Rattle.journal.specs.Boards.{answer_boards};
 ghost use Rattle.board.specs.Rack.{IsBoard, setup_of};
-ghost use Rattle.connect_phase.specs.Answering.{connected_by, rack_answered, SpentBelow, AllBelow, AllAreBoards, AllCanAnswer, answer_from, is_other_holder};
+ghost use Rattle.board.specs.Shown.{RackShows};
+ghost use Rattle.connect_phase.specs.Answering.{connected_by, rack_answered, SpentBelow, AllBelow, AllAreBoards, AllCanAnswer, answer_from, is_other_holder, with_answers};
 
 use board::Rack;
 use bus_signals::{BoardNo, BusEvent, LineNo, Response, wired};
-use moesi_state::Outcome;
 use journal::{Answer, Answers, Connected};
+use moesi_state::Outcome;
 
 /// Whether another board than the master holds a line.
 fn is_other_holder(rack: &Rack, master: BoardNo, line: LineNo, board: BoardNo) -> bool
@@ -57,7 +60,7 @@ fn answers_to(rack: &Rack, master: BoardNo, line: LineNo, event: BusEvent) -> An
 }
 
 /// Each answering board goes to its next draw.
-fn spend_all(rack: &mut Rack, answers: &[Answer])
+pub fn spend_all(rack: &mut Rack, answers: &[Answer])
     requires boards { AllAreBoards rack.old answers.now }
     requires few { length answers.now ≤ 15 }
     requires draws { SpentBelow (2 ^ 63) rack.old.counts }
@@ -80,6 +83,8 @@ pub fn connect(
     requires draws { SpentBelow (2 ^ 63) rack.old.counts }
     ensures transaction { result ≡ connected_by rack.old master line event outcome }
     ensures draws { rack.new ≡ rack_answered rack.old result.answers }
+    ensures picks { (c : Configuration) → RackShows c rack.old → result ≡ transaction_of (setup_of rack.old) c master line event outcome }
+    ensures shows { (c : Configuration) → RackShows c rack.old → RackShows (with_answers c result) rack.new }
     ensures fits { let others = other_holders (setup_of rack.old) rack.old.rows master line in AllCanAnswer (setup_of rack.old) rack.old.rows line event others → AnswersFit (setup_of rack.old) rack.old.rows line event others result.answers }
 {
     let answers = answers_to(rack, master, line, event);

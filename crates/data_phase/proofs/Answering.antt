@@ -1,25 +1,23 @@
 -- The answering boards, one after another, as one change of all rows.
-use Rattle.std.proofs.Common.{◌≡◌, ℕ, zero, suc, ◌+◌, ◌<◌, ◌≤◌, Bool, true, false, cond, not, List, [], ◌∷◌, ◌++◌, length, get_or, map, take, refl, ap, sym, ◌∙◌, arith, Option, Some, None, ◌⊎◌, inl, inr}
-use Rattle.std.specs.Prelude.{filter_map, ◌==◌, ◌&&◌, find, option_map, unwrap_or}
-use Rattle.std.specs.List.{cons_option, list_any}
+use Rattle.std.proofs.Common.{◌≡◌, ℕ, zero, suc, ◌+◌, ◌<◌, Bool, true, false, cond, List, [], ◌∷◌, ◌++◌, length, get_or, take, refl, ap, sym, ◌∙◌, arith, Option, Some, None}
+use Rattle.std.specs.Prelude.{filter_map, ◌==◌, ◌&&◌, find, option_map}
+use Rattle.std.specs.List.{cons_option}
 use Rattle.std.proofs.lemmas.List.{take_more}
 use Rattle.std.proofs.lemmas.Bool.Decides.{nat_tests}
-use Rattle.moesi_state.specs.declared.State.{State}
 use Rattle.moesi_state.specs.States.{holds}
 use Rattle.journal.specs.Rising.{IsRising}
 use Rattle.journal.specs.Boards.{answer_boards}
-use Rattle.bus_signals.specs.declared.Access.{Access}
 use Rattle.bus_signals.specs.declared.BusEvent.{BusEvent}
 use Rattle.bus_signals.specs.declared.BusEvent.TheVariants.{Rd, Rfo, Inv, Urd, Bwr, Uwr, Ubw, Pas, Flu}
 use Rattle.bus_model.specs.Connecting.{intervener}
-use Rattle.bus_model.specs.Events.{Answer, Carried, Done, Board}
-use Rattle.bus_model.specs.Configuration.{Row, is_copy, is_of_line}
+use Rattle.bus_model.specs.Events.{Answer, Board}
+use Rattle.bus_model.specs.Configuration.{Row, is_copy}
 use Rattle.bus_model.specs.Effects.{row_as}
-use Rattle.bus_model.specs.Carrying.{source_of, intervener_or_memory, answering_row, row_if, state_in, taken_words, written_by, written}
+use Rattle.bus_model.specs.Carrying.{source_of, intervener_or_memory}
 use Rattle.board.specs.declared.change.Change.{Change}
 use Rattle.board.specs.Frames.{changed_words}
 use Rattle.board.specs.Rack.{Rack, row_given, IsBoard}
-use Rattle.data_phase.specs.Seen.{rows_given_all, rack_given_all, change_for, change_of, change_by, is_taker, AllAreBoards, AreOthers}
+use Rattle.data_phase.specs.Seen.{rows_given_all, rack_given_all, change_for, AllAreBoards, AreOthers}
 
 given-push : (rows : List Row) (line : ℕ) (takers : List ℕ) (change : Change) (xs : List Answer) (a : Answer)
     → rows_given_all rows line takers change (xs ++ a ∷ [])

@@ -1,5 +1,5 @@
 -- The answering boards leave the master's rows, and so its room.
-use Rattle.std.proofs.Common.{◌≡◌, ℕ, Bool, true, false, cond, not, List, [], ◌∷◌, length, refl, ap, sym, ◌∙◌, arith, Option, Some, None}
+use Rattle.std.proofs.Common.{◌≡◌, ℕ, Bool, true, false, cond, List, [], ◌∷◌, length, refl, ap, sym, ◌∙◌, arith, Option, Some, None}
 use Rattle.std.specs.Prelude.{filter, filter_map, find, is_some, IsTrue, IsFalse, nat_lt, ◌==◌, ◌&&◌}
 use Rattle.std.specs.List.{cons_option}
 use Rattle.std.proofs.lemmas.Bool.Decides.{nat_tests}
@@ -7,11 +7,9 @@ use Rattle.moesi_state.specs.declared.State.{State}
 use Rattle.moesi_state.specs.States.{holds}
 use Rattle.journal.specs.Rising.{IsRising}
 use Rattle.journal.specs.Boards.{answer_boards}
-use Rattle.bus_model.specs.Places.{count_where}
 use Rattle.bus_model.specs.Setup.{Shape, Plain, Cached, shape_of}
 use Rattle.bus_model.specs.Events.{Answer}
 use Rattle.bus_model.specs.Configuration.{Row, is_copy, has_row}
-use Rattle.bus_model.specs.Effects.{row_as}
 use Rattle.bus_model.specs.Board.{is_in_set}
 use Rattle.board.specs.declared.change.Change.{Change}
 use Rattle.board.specs.Rack.{Rack, can_fill, set_has_room, setup_of}

@@ -14,8 +14,8 @@ use crate::parts::{
 };
 use board::{Change, Rack};
 use bus_signals::{Access, Addr, BoardNo, LineNo};
-use memory_board::MemoryBoard;
 use journal::{Answer, Carried, Connected, Done, Source};
+use memory_board::MemoryBoard;
 
 /// The words at the source of a transaction. Where nobody gives words they are those of the master.
 fn moved_words(rack: &Rack, memory: &MemoryBoard, connected: &Connected) -> [u32; 4]
@@ -118,6 +118,30 @@ fn remember(
     } else {
         let stored = written_by(done, get_memory(memory, connected.line));
         put_memory(memory, connected.line, stored);
+    }
+}
+
+/// What the data phase of a transaction is to say. `access` is as for `transfer`.
+pub fn expected(
+    rack: &Rack,
+    memory: &MemoryBoard,
+    connected: &Connected,
+    access: Option<Access>,
+) -> Carried
+    requires master { IsBoard rack.now connected.now.master }
+    requires line { 4 * connected.now.line < length memory.now }
+    requires others { AreOthers rack.now connected.now.master connected.now.answers }
+    ensures { result ≡ carried_for (seen rack.now memory.now) connected.now access }
+{
+    let moved = moved_words(rack, memory, connected);
+    Carried {
+        master: connected.master,
+        event: connected.event,
+        line: connected.line,
+        source: carried_source(connected),
+        takers: carried_takers(connected),
+        states: carried_states(connected),
+        done: done_for(access, connected.line, moved),
     }
 }
 

@@ -9,9 +9,9 @@ ghost use Rattle.board.specs.Rack.{IsBoard};
 use board::Rack;
 use bus_signals::{Access, BoardNo, BusEvent, LineNo};
 use connect_phase::{intervener, response};
+use journal::{Connected, Done, Places, Source, States, Takers};
 use memory_board::MemoryBoard;
 use moesi_state::State;
-use journal::{Connected, Done, Places, Source, States, Takers};
 
 /// Where the words of a transaction come from: a read gets them from the board that asserts DI, or else from memory.
 pub fn carried_source(connected: &Connected) -> Source

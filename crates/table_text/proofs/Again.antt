@@ -1,14 +1,12 @@
 -- What is written is read again, whatever follows it.
-use Rattle.std.proofs.Common.{◌≡◌, ℕ, zero, suc, ◌<◌, ◌+◌, ◌≤◌, Bool, true, false, cond, List, [], ◌∷◌, ◌++◌, length, map, drop, get_or, Option, Some, None, Result, Ok, Err, refl, sym, ap, subst, ◌∙◌, append_assoc, arith}
+use Rattle.std.proofs.Common.{◌≡◌, ℕ, zero, suc, ◌<◌, ◌≤◌, Bool, true, false, List, [], ◌∷◌, ◌++◌, length, map, drop, Option, Some, None, Result, Ok, refl, sym, ap, ◌∙◌, append_assoc, arith}
 use Rattle.std.specs.Prelude.{codes, slice_set}
 use Rattle.std.specs.Str.{bytes_eq}
 use Rattle.std.proofs.lemmas.List.{append-nil}
-use Rattle.fb_text.specs.Lines.{is_empty}
 use Rattle.fb_text.specs.Unread.{Unread, Line}
-use Rattle.fb_text.specs.Places.{line_items, lines_items, Words, Item, Place, word, line_end, text_end, items, line_places, lines_places, places}
+use Rattle.fb_text.specs.Places.{line_items, lines_items, Words, Item, line_end, text_end, items, lines_places, places}
 use Rattle.moesi_state.specs.declared.State.{State}
 use Rattle.moesi_state.specs.declared.State.TheVariants.{M, O, E, S, I}
-use Rattle.bus_signals.specs.declared.LocalEvent.{LocalEvent}
 use Rattle.bus_signals.specs.declared.BusEvent.{BusEvent}
 use Rattle.bus_signals.specs.declared.BusEvent.TheVariants.{Rd, Rfo, Inv, Urd, Bwr, Uwr, Ubw, Pas, Flu}
 use Rattle.moesi_state.specs.declared.Outcome.{Outcome}
@@ -16,17 +14,17 @@ use Rattle.moesi_state.specs.declared.Outcome.TheVariants.{Fixed, OnHit}
 use Rattle.class_relation.specs.declared.LocalAction.{LocalAction}
 use Rattle.class_relation.specs.declared.SnoopAction.{SnoopAction}
 use Rattle.class_relation.specs.Tables.{local_cell, answer_cell}
-use Rattle.class_relation.specs.Tables.{Table, empty_table, locals_of, answers_of, with_local, with_answer}
+use Rattle.class_relation.specs.Tables.{Table, empty_table, with_local, with_answer}
 use Rattle.table_text.specs.declared.fault.TableKind.{TableKind}
 use Rattle.table_text.specs.declared.fault.TableKind.TheVariants.{UnknownWord, NoCell}
-use Rattle.table_text.specs.Words.{state_word, local_event_word, bus_event_word, outcome_word, outcome_of, state_of, local_event_of, bus_event_of}
-use Rattle.table_text.specs.Reading.{◌>>=◌, Fault, on_line, line_ends, bar_or_end, local_action, local_rest, local_at, snoop_rest, snoop_at, response, alternatives, local_alternatives, snoop_alternatives, local_cell_at, snoop_cell_at, cell_line, event_at, any_cell, table_line, table_lines, table_at}
-use Rattle.table_text.specs.Spelling.{bar, bus_words, local_words, snoop_words, alternative_words, CellLine, local, answer, cell_words, HasAlternative, table_items, entered, all_entered, table_of}
+use Rattle.table_text.specs.Words.{state_word, bus_event_word, outcome_word, outcome_of, state_of}
+use Rattle.table_text.specs.Reading.{Fault, line_ends, bar_or_end, local_action, local_rest, local_at, snoop_rest, snoop_at, alternatives, local_cell_at, snoop_cell_at, cell_line, table_line, table_lines, table_at}
+use Rattle.table_text.specs.Spelling.{bar, bus_words, local_words, snoop_words, alternative_words, CellLine, local, answer, cell_words, table_items, entered, all_entered, table_of}
 use Rattle.table_text.specs.Correct.{CanStand, AllStand}
 use Rattle.table_text.proofs.WordLaws.{state_again, local_event_again, bus_event_again, no_local_event}
-use Rattle.table_text.proofs.LineLaws.{tail, answer_of}
-use Rattle.table_text.proofs.TableLaws.{IsWhole, rows_items, all_added, local_added, snoop_added, place_local, place_snoop, entered_whole, empty_whole}
-use Rattle.fb_text.proofs.LineLaws.{items_line, cut_line}
+use Rattle.table_text.proofs.Alternatives.{tail, answer_of}
+use Rattle.table_text.proofs.TableLaws.{HasAllCells, rows_items, all_added, local_added, snoop_added, place_local, place_snoop, entered_whole, empty_whole}
+use Rattle.fb_text.proofs.LineItems.{items_line, cut_line}
 
 pub outcome_again : (o : Outcome) → outcome_of (outcome_word o) ≡ Some o
 unfolding outcome_of state_of
@@ -127,7 +125,7 @@ module _ {A X : Type 0} (first : List ℕ → Option X) (read : TableKind → Wo
   alternatives_again (suc room) missing t (a ∷ b ∷ more) some few =
       rw (again missing a true (alternative_words f (b ∷ more))) (alternatives_again room UnknownWord (add t a) (b ∷ more) (omega arith) (omega arith))
 
-pub cell_again : (t : Table) (c : CellLine) → IsWhole t → CanStand t c → cell_line t (cell_words c) ≡ Ok (entered t c)
+pub cell_again : (t : Table) (c : CellLine) → HasAllCells t → CanStand t c → cell_line t (cell_words c) ≡ Ok (entered t c)
 unfolding cell_line local_cell_at snoop_cell_at
 cell_again t (local s e alts) whole can =
     rw (state_again s, local_event_again e, can.0) (alternatives_again outcome_of local_at local_words (λ u a. with_local u s e a) local_again 16 NoCell t alts can.1 can.2
@@ -153,7 +151,7 @@ not_end (answer E e alts) = refl
 not_end (answer S e alts) = refl
 not_end (answer I e alts) = refl
 
-pub line_again : (t : Table) (c : CellLine) → IsWhole t → CanStand t c → table_line t (cell_words c) ≡ Ok (false, entered t c)
+pub line_again : (t : Table) (c : CellLine) → HasAllCells t → CanStand t c → table_line t (cell_words c) ≡ Ok (false, entered t c)
 unfolding table_line
 line_again t (local s e alts) whole can = rw (not_end (local s e alts), cell_again t (local s e alts) whole can) refl
 line_again t (answer s e alts) whole can = rw (not_end (answer s e alts), cell_again t (answer s e alts) whole can) refl
@@ -176,7 +174,7 @@ cell_begins : (c : CellLine) (xs : List Item) → text_end ∷ [] ≡ line_items
 cell_begins (local s e alts) xs h = cc
 cell_begins (answer s e alts) xs h = cc
 
-pub lines_again : (cells : List CellLine) (t : Table) (ls : List Line) (end : ℕ) (rest : List Item) → IsWhole t → AllStand t cells → items (lines_places ls end) ≡ cells_items cells ++ (line_items (codes "end" ∷ []) ++ rest)
+pub lines_again : (cells : List CellLine) (t : Table) (ls : List Line) (end : ℕ) (rest : List Item) → HasAllCells t → AllStand t cells → items (lines_places ls end) ≡ cells_items cells ++ (line_items (codes "end" ∷ []) ++ rest)
     → ReadsOn (table_lines t ls end) (all_entered t cells) rest
 unfolding table_lines
 lines_again [] t [] end rest whole stand e = absurd cc

@@ -1,9 +1,9 @@
 -- The bars of a line.
-use Rattle.std.proofs.Common.{◌≡◌, ℕ, zero, suc, ◌<◌, ◌+◌, ◌≤◌, ◌⊎◌, inl, inr, Bool, true, false, cond, List, [], ◌∷◌, ◌++◌, length, Option, Some, None, refl, sym, ap, subst, ◌∙◌, append_assoc, arith}
+use Rattle.std.proofs.Common.{◌≡◌, ℕ, suc, ◌<◌, ◌+◌, ◌⊎◌, inl, inr, Bool, true, false, cond, List, [], ◌∷◌, ◌++◌, length, Option, Some, None, refl, sym, ap, subst, ◌∙◌, arith}
 use Rattle.std.specs.Prelude.{codes}
 use Rattle.std.specs.Str.{bytes_eq}
 use Rattle.fb_text.specs.Places.{Words}
-use Rattle.fb_text.proofs.LineLaws.{split_append, SplitsBehind}
+use Rattle.fb_text.proofs.LineItems.{split_append, SplitsBehind}
 use Rattle.moesi_state.specs.declared.State.{State}
 use Rattle.moesi_state.specs.declared.State.TheVariants.{M, O, E, S, I}
 use Rattle.bus_signals.specs.declared.LocalEvent.{LocalEvent}
@@ -16,7 +16,6 @@ use Rattle.class_relation.specs.declared.LocalAction.{LocalAction}
 use Rattle.class_relation.specs.declared.SnoopAction.{SnoopAction}
 use Rattle.table_text.specs.Words.{state_word, local_event_word, bus_event_word, outcome_word}
 use Rattle.table_text.specs.Spelling.{bar, bars, bus_words, local_words, signal_words, snoop_words, alternative_words}
-use Rattle.table_text.proofs.LineLaws.{answer_of}
 
 pub bars_append : (a b : Words) → bars (a ++ b) ≡ bars a + bars b
 bars_append [] b = omega arith

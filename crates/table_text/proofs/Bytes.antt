@@ -1,18 +1,17 @@
 -- A written table is read again, whatever follows it.
-use Rattle.std.proofs.Common.{◌≡◌, ℕ, ◌+◌, List, [], ◌∷◌, ◌++◌, length, map, Result, Ok, Err, refl, sym, ap, subst, ◌∙◌, append_assoc, arith}
+use Rattle.std.proofs.Common.{◌≡◌, ℕ, ◌+◌, List, [], ◌∷◌, ◌++◌, length, map, Result, refl, sym, ap, subst, ◌∙◌, append_assoc}
 use Rattle.std.specs.Prelude.{codes}
-use Rattle.std.proofs.lemmas.List.{append-nil}
 use Rattle.fb_text.specs.Lines.{lines}
 use Rattle.fb_text.specs.Unread.{Unread, Line, unread, numbered, at_next_line, after_word}
-use Rattle.fb_text.specs.Places.{Words, Item, line_end, items, lines_items, lines_places, places}
+use Rattle.fb_text.specs.Places.{Words, Item, line_end, items, lines_places, places}
 use Rattle.fb_text.specs.Written.{line_bytes, lines_bytes}
 use Rattle.fb_text.proofs.Spaced.{line_again, lines_again}
-use Rattle.class_relation.specs.Tables.{Table, empty_table}
+use Rattle.class_relation.specs.Tables.{Table, empty_table, IsWhole}
 use Rattle.table_text.specs.declared.fault.TableFault.{TableFault}
-use Rattle.table_text.specs.Reading.{Fault, GivesTable, table_at}
-use Rattle.table_text.specs.Spelling.{CellLine, cell_words, table_rows, table_items, table_of}
+use Rattle.table_text.specs.Reading.{GivesTable, table_at}
+use Rattle.table_text.specs.Spelling.{cell_words, table_items, table_of}
 use Rattle.table_text.specs.Correct.{IsReadAs, AllStand}
-use Rattle.table_text.specs.Writing.{cells_of, written_table, IsProper, after_head}
+use Rattle.table_text.specs.Writing.{cells_of, written_table, after_head}
 use Rattle.table_text.proofs.Order.{cells_stand, cells_spell}
 use Rattle.table_text.proofs.Plain.{rows_plain, name_plain}
 use Rattle.table_text.proofs.Read.{is_read}
@@ -21,16 +20,16 @@ rows : Table → List Words
 rows t = map cell_words (cells_of t) ++ (codes "end" ∷ []) ∷ []
 
 -- what is left behind the head line
-behind_head : (t : Table) (rest : List ℕ) → IsProper t → (end : ℕ) → end ≡ (unread (written_table t ++ rest)).end → after_head (written_table t ++ rest) ≡ record { line = 1; words = []; lines = numbered 2 (lines (lines_bytes (rows t) ++ rest)); end = end }
+behind_head : (t : Table) (rest : List ℕ) → IsWhole t → (end : ℕ) → end ≡ (unread (written_table t ++ rest)).end → after_head (written_table t ++ rest) ≡ record { line = 1; words = []; lines = numbered 2 (lines (lines_bytes (rows t) ++ rest)); end = end }
 unfolding written_table rows
 behind_head t rest p end e =
     let head : Words = codes "table" ∷ t.name ∷ [] in
     let bytes = append_assoc (line_bytes head) (lines_bytes (rows t)) rest in
-    let one = ap (λ (v : List ℕ). numbered 1 (lines v)) bytes ∙ line_again 1 (codes "table") (t.name ∷ []) (lines_bytes (rows t) ++ rest) refl (name_plain t.name p.name, tt) in
+    let one = ap (λ (v : List ℕ). numbered 1 (lines v)) bytes ∙ line_again 1 (codes "table") (t.name ∷ []) (lines_bytes (rows t) ++ rest) refl (name_plain t.name p.named, tt) in
     ap (λ (v : List Line). after_word (after_word (at_next_line (record { line = 0; words = []; lines = v; end = (unread (written_table t ++ rest)).end })))) one
     ∙ ap (λ (n : ℕ). record { line = 1; words = []; lines = numbered 2 (lines (lines_bytes (rows t) ++ rest)); end = n }) (sym e)
 
-pub is_read_again : (name : List ℕ) (u left : Unread) (r : Result Table TableFault) → GivesTable r left (table_at name u) → (t : Table) (rest : List ℕ) → IsProper t → name ≡ t.name → u ≡ after_head (written_table t ++ rest) → IsReadAs r t
+pub is_read_again : (name : List ℕ) (u left : Unread) (r : Result Table TableFault) → GivesTable r left (table_at name u) → (t : Table) (rest : List ℕ) → IsWhole t → name ≡ t.name → u ≡ after_head (written_table t ++ rest) → IsReadAs r t
 unfolding rows
 is_read_again name u left r given t rest p named here =
     let end : ℕ = (unread (written_table t ++ rest)).end in

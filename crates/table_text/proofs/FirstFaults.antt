@@ -1,26 +1,28 @@
 -- A refusal stands at the first place at fault, and has its kind.
-use Rattle.std.proofs.Common.{◌≡◌, ℕ, zero, suc, ◌<◌, ◌+◌, ◌≤◌, ◌⊎◌, inl, inr, Bool, true, false, cond, List, [], ◌∷◌, ◌++◌, length, map, drop, Option, Some, None, Result, Ok, Err, refl, sym, ap, subst, ◌∙◌, append_assoc, arith}
+use Rattle.std.proofs.Common.{◌≡◌, ℕ, ◌<◌, ◌⊎◌, inl, inr, Bool, true, false, cond, List, [], ◌∷◌, ◌++◌, map, drop, Option, Some, None, Result, Ok, Err, refl, sym, ap, subst, ◌∙◌, append_assoc, arith}
 use Rattle.std.specs.Prelude.{codes}
 use Rattle.std.specs.Str.{bytes_eq}
 use Rattle.std.specs.List.{AllByRecursion}
 use Rattle.std.proofs.lemmas.List.{append-nil, map-append}
 use Rattle.fb_text.specs.Unread.{Unread, Line}
-use Rattle.fb_text.specs.Places.{Words, Item, Place, word, line_end, text_end, items, line_items, lines_items, line_places, lines_places, places, GoesOn, IsFault, FirstFault, BreaksAtWord}
-use Rattle.fb_text.proofs.LineLaws.{words_append, last_word, from, item_at, IsClosing, BeginsLine, HasNext, NoLine, FreeFront, FaultBehind, first_fault, stops_in_line, behind_line, text_stops, unfit_fault, judged_fault}
+use Rattle.fb_text.specs.Places.{Words, Item, Place, word, text_end, lines_items, line_places, lines_places, places, IsFault, FirstFault, BreaksAtWord}
+use Rattle.fb_text.proofs.LineItems.{words_append, last_word, from, item_at}
+use Rattle.fb_text.proofs.LineLaws.{IsClosing, BeginsLine, HasNext, NoLine, FreeFront, FaultBehind, first_fault, stops_in_line, behind_line, text_stops, unfit_fault, judged_fault}
 use Rattle.moesi_state.specs.declared.State.{State}
 use Rattle.moesi_state.specs.declared.State.TheVariants.{M, O, E, S, I}
 use Rattle.class_relation.specs.Tables.{Table, empty_table}
 use Rattle.table_text.specs.declared.fault.TableKind.{TableKind}
-use Rattle.table_text.specs.declared.fault.TableKind.TheVariants.{UnknownWord, TwiceCell, NoCell, Alternatives, NoEnd}
+use Rattle.table_text.specs.declared.fault.TableKind.TheVariants.{UnknownWord, NoEnd}
 use Rattle.table_text.specs.Words.{state_word, local_event_word, bus_event_word}
 use Rattle.table_text.specs.Reading.{◌>>=◌, Fault, on_line, line_ends, is_end, table_line, table_lines, table_at, cell_line}
-use Rattle.table_text.specs.Spelling.{bar, bars, CellLine, local, answer, cell_words, local_words, snoop_words, HasLine, HasAlternative, BreaksCell, EndsWithEquals, UnfitTable, table_rows, table_items, table_grammar, entered}
+use Rattle.table_text.specs.Spelling.{bars, CellLine, local, answer, cell_words, local_words, snoop_words, HasLine, HasAlternative, BreaksCell, EndsWithEquals, UnfitTable, table_rows, table_grammar, entered}
 use Rattle.table_text.specs.Correct.{CanStand}
-use Rattle.table_text.proofs.LineLaws.{is_word}
+use Rattle.table_text.proofs.Alternatives.{is_word}
 use Rattle.table_text.proofs.Bars.{FewBars, few_total, alternatives_bars, local_bars, snoop_bars, state_no_bar, local_event_no_bar, bus_event_no_bar}
 use Rattle.table_text.proofs.Marks.{Marks, marks_push, marks_empty}
-use Rattle.table_text.proofs.TableLaws.{IsWhole, IsCellLine, cell_line_takes, entered_whole, empty_whole}
-use Rattle.table_text.proofs.Stops.{IsHard, Stops, BeginsCell, WhyCell, WhyLine, IsNew, cell_stops, cell_dead}
+use Rattle.table_text.proofs.TableLaws.{HasAllCells, cell_line_takes, entered_whole, empty_whole}
+use Rattle.table_text.proofs.Sides.{IsHard, cell_dead}
+use Rattle.table_text.proofs.CellStops.{BeginsCell, WhyCell, IsNew, cell_stops}
 
 -- ---- the language of tables as a language of lines
 
@@ -209,13 +211,13 @@ faulty done ps n k f same h = subst (λ (x : ℕ). FaultBehind table_grammar (ro
 -- what was passed
 pub record Passed (done : List CellLine) (t : Table) : Type 0 where
   pub all : AllByRecursion HasAlternative done
-  pub whole : IsWhole t
+  pub whole : HasAllCells t
   pub marks : Marks t (rows done)
 
 pass : (done : List CellLine) (t : Table) (c : CellLine) (mid : Table) → Passed done t → HasAlternative c → mid ≡ entered t c → Passed (done ++ c ∷ []) mid
 pass done t c mid p some e = record {
   all = all_push done c p.all some;
-  whole = subst IsWhole (sym e) (entered_whole t c p.whole);
+  whole = subst HasAllCells (sym e) (entered_whole t c p.whole);
   marks = subst (λ (x : Table). Marks x (rows (done ++ c ∷ []))) (sym e) (subst (λ (x : List Words). Marks (entered t c) x) (sym (rows_push done c)) (marks_push t (rows done) c p.whole p.marks some));
 }
 

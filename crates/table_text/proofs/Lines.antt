@@ -1,13 +1,12 @@
 -- One line of a table after another.
-use Rattle.std.proofs.Common.{◌≡◌, ℕ, Bool, true, false, List, [], ◌∷◌, length, Result, Ok, Err, refl, sym, ap, ◌∙◌, arith, ◌<◌}
+use Rattle.std.proofs.Common.{◌≡◌, ℕ, true, false, List, [], ◌∷◌, Ok, Err, refl, ap}
 use Rattle.fb_text.specs.Unread.{Unread, Line, has_line, at_next_line}
 use Rattle.class_relation.specs.Tables.{Table, empty_table}
-use Rattle.table_text.specs.declared.fault.TableKind.{TableKind}
 use Rattle.table_text.specs.declared.fault.TableKind.TheVariants.{NoEnd}
 use Rattle.table_text.specs.declared.fault.TableFault.{TableFault}
 use Rattle.table_text.specs.declared.fault.TableFault.TheVariants as faults
 use Rattle.fb_text.specs.Places.{Words}
-use Rattle.table_text.specs.Reading.{◌>>=◌, Fault, on_line, line_ends, table_line, table_lines, table_at, Fails, FailsTable, StaysOnLine}
+use Rattle.table_text.specs.Reading.{line_ends, table_line, table_lines, table_at, Fails, FailsTable, StaysOnLine}
 
 abbrev at : ℕ → Words → List Line → ℕ → Unread
 at n ws ls end = record { line = n; words = ws; lines = ls; end = end }

@@ -1,5 +1,5 @@
 -- The cells that have alternatives are those that earlier lines name.
-use Rattle.std.proofs.Common.{◌≡◌, ℕ, zero, suc, ◌<◌, ◌+◌, ◌*◌, ◌≤◌, ◌⊎◌, inl, inr, Bool, true, false, cond, eqb, List, [], ◌∷◌, ◌++◌, length, get_or, Option, Some, None, refl, sym, ap, subst, ◌∙◌, arith}
+use Rattle.std.proofs.Common.{◌≡◌, ℕ, ◌<◌, ◌≤◌, ◌⊎◌, inl, inr, true, false, cond, eqb, List, [], ◌∷◌, ◌++◌, length, get_or, Option, Some, None, refl, sym, ap, subst, ◌∙◌, arith}
 use Rattle.std.specs.Prelude.{slice_set}
 use Rattle.std.proofs.lemmas.Bool.{cases_eq}
 use Rattle.std.proofs.lemmas.List.{get_or-set_same, get_or-set_other, get_or-replicate}
@@ -19,9 +19,8 @@ use Rattle.bus_signals.specs.Signals.{event_number}
 use Rattle.class_relation.specs.Tables.{Table, empty_table, locals_of, answers_of}
 use Rattle.table_text.specs.Words.{state_word, local_event_word, bus_event_word, state_of, local_event_of, bus_event_of}
 use Rattle.table_text.specs.Spelling.{CellLine, local, answer, cell_words, HasAlternative, HasLine, entered}
-use Rattle.table_text.specs.Correct.{CanStand}
 use Rattle.table_text.proofs.WordLaws.{state_again, local_event_again, bus_event_again, no_local_event}
-use Rattle.table_text.proofs.TableLaws.{IsWhole, place_local, place_snoop}
+use Rattle.table_text.proofs.TableLaws.{HasAllCells, place_local, place_snoop}
 
 -- ---- lines that name a cell
 
@@ -142,7 +141,7 @@ pub record Marks (t : Table) (done : List Words) : Type 0 where
   pub snoop_free : (s : State) (e : BusEvent) → answers_of t s e ≡ [] → HasLine done (state_word s) (bus_event_word e) → ⊥
   pub snoop_used : (s : State) (e : BusEvent) → is_empty (answers_of t s e) ≡ false → HasLine done (state_word s) (bus_event_word e)
 
-local_marks : (t : Table) (done : List Words) (s : State) (e : LocalEvent) (alts : List LocalAction) → IsWhole t → Marks t done → 0 < length alts → Marks (entered t (local s e alts)) (done ++ cell_words (local s e alts) ∷ [])
+local_marks : (t : Table) (done : List Words) (s : State) (e : LocalEvent) (alts : List LocalAction) → HasAllCells t → Marks t done → 0 < length alts → Marks (entered t (local s e alts)) (done ++ cell_words (local s e alts) ∷ [])
 local_marks t done s e alts whole m some = record {
   local_free = λ r a none has. free r a none (has_either done (cell_words (local s e alts)) (state_word r) (local_event_word a) has);
   local_used = λ r a used. either_used r a (used_before t.locals (local_cell s e) (local_cell r a) alts (omega (arith, place_local s e, whole.local)) some used);
@@ -173,7 +172,7 @@ local_marks t done s e alts whole m some = record {
     other r a none (inl h) = m.snoop_free r a none h
     other r a none (inr h) = let words = h.1 in let second : local_event_word e ≡ bus_event_word a = cc in other_word e a second
 
-snoop_marks : (t : Table) (done : List Words) (s : State) (e : BusEvent) (alts : List SnoopAction) → IsWhole t → Marks t done → 0 < length alts → Marks (entered t (answer s e alts)) (done ++ cell_words (answer s e alts) ∷ [])
+snoop_marks : (t : Table) (done : List Words) (s : State) (e : BusEvent) (alts : List SnoopAction) → HasAllCells t → Marks t done → 0 < length alts → Marks (entered t (answer s e alts)) (done ++ cell_words (answer s e alts) ∷ [])
 snoop_marks t done s e alts whole m some = record {
   snoop_free = λ r a none has. free r a none (has_either done (cell_words (answer s e alts)) (state_word r) (bus_event_word a) has);
   snoop_used = λ r a used. either_used r a (used_before t.answers (answer_cell s e) (answer_cell r a) alts (omega (arith, place_snoop s e, whole.snoop)) some used);
@@ -205,7 +204,7 @@ snoop_marks t done s e alts whole m some = record {
     other r a none (inr h) = let words = h.1 in let second : bus_event_word e ≡ local_event_word a = cc in other_word a e (sym second)
 
 -- one more line
-pub marks_push : (t : Table) (done : List Words) (c : CellLine) → IsWhole t → Marks t done → HasAlternative c → Marks (entered t c) (done ++ cell_words c ∷ [])
+pub marks_push : (t : Table) (done : List Words) (c : CellLine) → HasAllCells t → Marks t done → HasAlternative c → Marks (entered t c) (done ++ cell_words c ∷ [])
 marks_push t done (local s e alts) whole m some = local_marks t done s e alts whole m some
 marks_push t done (answer s e alts) whole m some = snoop_marks t done s e alts whole m some
 

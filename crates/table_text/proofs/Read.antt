@@ -10,7 +10,7 @@ use Rattle.table_text.specs.Reading.{Fault, GivesTable, table_at}
 use Rattle.table_text.specs.Spelling.{CellLine, table_items, table_of}
 use Rattle.table_text.specs.Correct.{IsTable, AllStand, IsReadAs, IsFirstFault}
 use Rattle.table_text.proofs.TableLaws.{table_takes}
-use Rattle.table_text.proofs.Again.{table_again, ReadsOn}
+use Rattle.table_text.proofs.Again.{table_again}
 use Rattle.table_text.proofs.FirstFaults.{table_stops}
 
 pub is_spelled : (name : List ℕ) (u left : Unread) (r : Result Table TableFault) → GivesTable r left (table_at name u) → IfOk r (λ t. IsTable name u t left)

@@ -1,13 +1,12 @@
 -- A table that is read is the table that its text spells.
-use Rattle.std.proofs.Common.{◌≡◌, ℕ, zero, suc, ◌<◌, ◌+◌, ◌*◌, ◌≤◌, ◌⊎◌, inl, inr, Bool, true, false, cond, List, [], ◌∷◌, ◌++◌, length, drop, get_or, Option, Some, None, Result, Ok, Err, refl, sym, ap, subst, ◌∙◌, append_assoc, arith, map}
-use Rattle.std.specs.Prelude.{codes, slice_set, slice_index_or}
+use Rattle.std.proofs.Common.{◌≡◌, ℕ, zero, suc, ◌<◌, ◌≤◌, Bool, true, false, cond, List, [], ◌∷◌, ◌++◌, length, drop, get_or, Option, Some, None, Result, Ok, Err, refl, sym, ap, subst, ◌∙◌, append_assoc, arith, map}
+use Rattle.std.specs.Prelude.{codes, slice_set}
 use Rattle.std.specs.Str.{bytes_eq}
-use Rattle.std.specs.List.{AllByRecursion}
-use Rattle.std.proofs.lemmas.List.{append-nil, get_or-set_same, length-set, set-set, set-get_or, nil_from_length}
+use Rattle.std.proofs.lemmas.List.{append-nil, get_or-set_same, length-set, set-set, set-get_or}
 use Rattle.fb_text.specs.Lines.{is_empty}
-use Rattle.fb_text.proofs.LineLaws.{items_line, lines_push}
+use Rattle.fb_text.proofs.LineItems.{items_line, lines_push}
 use Rattle.fb_text.specs.Unread.{Unread, Line}
-use Rattle.fb_text.specs.Places.{line_items, lines_items, Words, Item, Place, word, line_end, text_end, items, line_places, lines_places, places}
+use Rattle.fb_text.specs.Places.{line_items, lines_items, Words, Item, Place, line_end, items, line_places, lines_places}
 use Rattle.moesi_state.specs.declared.State.{State}
 use Rattle.moesi_state.specs.declared.State.TheVariants.{M, O, E, S, I}
 use Rattle.bus_signals.specs.declared.LocalEvent.{LocalEvent}
@@ -23,11 +22,11 @@ use Rattle.class_relation.specs.Tables.{Table, empty_table, locals_of, answers_o
 use Rattle.table_text.specs.declared.fault.TableKind.{TableKind}
 use Rattle.table_text.specs.declared.fault.TableKind.TheVariants.{UnknownWord, TwiceCell, NoCell, Alternatives}
 use Rattle.table_text.specs.Words.{state_word, local_event_word, bus_event_word, state_of, local_event_of, bus_event_of, outcome_of}
-use Rattle.table_text.specs.Reading.{◌>>=◌, Fault, on_line, line_ends, is_end, table_line, table_lines, table_at, cell_line, event_at, any_cell, bus_cell, local_cell_at, snoop_cell_at, this_word, word_by, local_at, snoop_at, local_alternatives, snoop_alternatives, alternatives, no_room, seventeenth}
-use Rattle.table_text.specs.Spelling.{bar, local_words, snoop_words, alternative_words, CellLine, local, answer, cell_words, HasAlternative, table_items, entered, all_entered, table_of}
-use Rattle.table_text.specs.Correct.{IsTable, CanStand}
+use Rattle.table_text.specs.Reading.{◌>>=◌, on_line, line_ends, is_end, table_line, table_lines, table_at, cell_line, event_at, any_cell, local_cell_at, snoop_cell_at, this_word, word_by, local_at, snoop_at, local_alternatives, snoop_alternatives, alternatives, seventeenth}
+use Rattle.table_text.specs.Spelling.{bar, local_words, snoop_words, alternative_words, CellLine, local, answer, cell_words, HasAlternative, entered, all_entered}
+use Rattle.table_text.specs.Correct.{IsTable, CanStand, AllStand}
 use Rattle.table_text.proofs.WordLaws.{state_is, local_event_is, bus_event_is}
-use Rattle.table_text.proofs.LineLaws.{bind_ok, ok_is, wanted, is_word, tail, word_takes, local_takes, snoop_takes}
+use Rattle.table_text.proofs.Alternatives.{bind_ok, ok_is, wanted, is_word, tail, word_takes, local_takes, snoop_takes}
 
 -- the alternatives added one after another
 abbrev pub all_added : {A : Type 0} → (Table → A → Table) → Table → List A → Table
@@ -89,7 +88,7 @@ wanted_first true r y d e = (refl, e)
 wanted_first false r y d e = absurd cc
 
 -- the lists of cells are those of a table
-pub record IsWhole (t : Table) : Type 0 where
+pub record HasAllCells (t : Table) : Type 0 where
   pub local : length t.locals ≡ 20
   pub snoop : length t.answers ≡ 45
 
@@ -167,7 +166,7 @@ pub empty_is_nil : {X : Type 0} (xs : List X) → is_empty xs ≡ true → xs �
 empty_is_nil [] e = refl
 empty_is_nil (x ∷ xs) e = absurd cc
 
-local_cell_takes : (t : Table) (s : State) (e : LocalEvent) (ws : Words) (after : Table) → IsWhole t → local_cell_at t s e ws ≡ Ok after → IsCellLine t (state_word s ∷ local_event_word e ∷ ws) after
+local_cell_takes : (t : Table) (s : State) (e : LocalEvent) (ws : Words) (after : Table) → HasAllCells t → local_cell_at t s e ws ≡ Ok after → IsCellLine t (state_word s ∷ local_event_word e ∷ ws) after
 unfolding local_cell_at
 local_cell_takes t s e ws after whole r =
     let h = wanted_first (is_empty (locals_of t s e)) (this_word (codes "=") ws >>= λ rest. local_alternatives s e t rest) after TwiceCell r in
@@ -182,7 +181,7 @@ local_cell_takes t s e ws after whole r =
           ∙ ap (λ (row : List LocalAction). record t { locals = slice_set t.locals (local_cell s e) (row ++ found.alts) }) (empty_is_nil (locals_of t s e) h.0);
     }
 
-snoop_cell_takes : (t : Table) (s : State) (e : BusEvent) (ws : Words) (after : Table) → IsWhole t → snoop_cell_at t s e ws ≡ Ok after → IsCellLine t (state_word s ∷ bus_event_word e ∷ ws) after
+snoop_cell_takes : (t : Table) (s : State) (e : BusEvent) (ws : Words) (after : Table) → HasAllCells t → snoop_cell_at t s e ws ≡ Ok after → IsCellLine t (state_word s ∷ bus_event_word e ∷ ws) after
 unfolding snoop_cell_at
 snoop_cell_takes t s e ws after whole r =
     let h = wanted_first (is_empty (answers_of t s e)) (this_word (codes "=") ws >>= λ rest. snoop_alternatives s e t rest) after TwiceCell r in
@@ -197,7 +196,7 @@ snoop_cell_takes t s e ws after whole r =
           ∙ ap (λ (row : List SnoopAction). record t { answers = slice_set t.answers (answer_cell s e) (row ++ found.alts) }) (empty_is_nil (answers_of t s e) h.0);
     }
 
-event_takes : (t : Table) (s : State) (ws : Words) (after : Table) → IsWhole t → event_at t s ws ≡ Ok after → IsCellLine t (state_word s ∷ ws) after
+event_takes : (t : Table) (s : State) (ws : Words) (after : Table) → HasAllCells t → event_at t s ws ≡ Ok after → IsCellLine t (state_word s ∷ ws) after
 event_takes t s [] after whole r = absurd cc
 event_takes t s (w ∷ ws) after whole r = go (local_event_of w) (bus_event_of w) refl refl r
   where
@@ -206,13 +205,13 @@ event_takes t s (w ∷ ws) after whole r = go (local_event_of w) (bus_event_of w
     go None (Some e) h k r = subst (λ (v : List ℕ). IsCellLine t (state_word s ∷ v ∷ ws) after) (sym (bus_event_is w e k)) (snoop_cell_takes t s e ws after whole r)
     go None None h k r = absurd cc
 
-pub cell_line_takes : (t : Table) (ws : Words) (after : Table) → IsWhole t → cell_line t ws ≡ Ok after → IsCellLine t ws after
+pub cell_line_takes : (t : Table) (ws : Words) (after : Table) → HasAllCells t → cell_line t ws ≡ Ok after → IsCellLine t ws after
 unfolding cell_line
 cell_line_takes t ws after whole r =
     let a = bind_ok (word_by state_of UnknownWord ws) (λ state. event_at t state.0 state.1) after r in
     subst (λ (v : Words). IsCellLine t v after) (sym (word_takes state_of state_word state_is UnknownWord ws a.0 a.1)) (event_takes t a.0.0 a.0.1 after whole a.2)
 
-pub entered_whole : (t : Table) (c : CellLine) → IsWhole t → IsWhole (entered t c)
+pub entered_whole : (t : Table) (c : CellLine) → HasAllCells t → HasAllCells (entered t c)
 entered_whole t (local s e alts) whole = record { local = length-set t.locals (local_cell s e) alts ∙ whole.local; snoop = whole.snoop }
 entered_whole t (answer s e alts) whole = record { local = whole.local; snoop = length-set t.answers (answer_cell s e) alts ∙ whole.snoop }
 
@@ -239,7 +238,7 @@ ends_takes (w ∷ v ∷ ws) h e = absurd cc
 unit_ok : (r : Result (Unit {0}) TableKind) (u : Unit {0}) → r ≡ Ok u → r ≡ Ok tt
 unit_ok r u e = e
 
-pub table_line_takes : (t : Table) (ws : Words) (x : Bool × Table) → IsWhole t → table_line t ws ≡ Ok x → IsTableLine t ws x.0 x.1
+pub table_line_takes : (t : Table) (ws : Words) (x : Bool × Table) → HasAllCells t → table_line t ws ≡ Ok x → IsTableLine t ws x.0 x.1
 unfolding table_line
 table_line_takes t ws x whole r = go (is_end ws) refl r
   where
@@ -253,7 +252,7 @@ table_line_takes t ws x whole r = go (is_end ws) refl r
 
 pub record TableLines (t : Table) (xs : List Item) (after : Table) (left : Unread) : Type 0 where
   pub cells : List CellLine
-  pub some : AllByRecursion HasAlternative cells
+  pub stand : AllStand t cells
   pub parts : xs ≡ lines_items (map cell_words cells) ++ (line_items (codes "end" ∷ []) ++ items (lines_places left.lines left.end))
   pub enters : after ≡ all_entered t cells
   pub ends : left.words ≡ []
@@ -264,39 +263,39 @@ left_at n ls end = record { line = n; words = []; lines = ls; end = end }
 one_more_line : (t : Table) (n : ℕ) (ws : Words) (rest : List Place) (mid after : Table) (left : Unread) → IsCellLine t ws mid → TableLines mid (items rest) after left → TableLines t (items (line_places n ws rest)) after left
 one_more_line t n ws rest mid after left c others = record {
   cells = c.line ∷ others.cells;
-  some = (c.some, others.some);
+  stand = (c.can, subst (λ (v : Table). AllStand v others.cells) c.enters others.stand);
   parts = items_line n ws rest ∙ (ap (λ (v : Words). line_items v ++ items rest) c.words ∙ (ap (λ (xs : List Item). line_items (cell_words c.line) ++ xs) others.parts
       ∙ sym (append_assoc (line_items (cell_words c.line)) (lines_items (map cell_words others.cells)) (line_items (codes "end" ∷ []) ++ items (lines_places left.lines left.end)))));
   enters = others.enters ∙ ap (λ (v : Table). all_entered v others.cells) c.enters;
   ends = others.ends;
 }
 
-pub table_lines_take : (t : Table) (ls : List Line) (end : ℕ) (x : Table × Unread) → IsWhole t → table_lines t ls end ≡ Ok x → TableLines t (items (lines_places ls end)) x.0 x.1
+pub table_lines_take : (t : Table) (ls : List Line) (end : ℕ) (x : Table × Unread) → HasAllCells t → table_lines t ls end ≡ Ok x → TableLines t (items (lines_places ls end)) x.0 x.1
 unfolding table_lines
 table_lines_take t [] end x whole r = absurd cc
 table_lines_take t (l ∷ ls) end x whole r =
     let a = bind_ok (on_line l.number (table_line t l.words)) (λ y. cond y.0 (Ok (y.1, left_at l.number ls end)) (table_lines y.1 ls end)) x r in
     go a.0.0 a.0.1 (table_line_takes t l.words a.0 whole (on_line_ok l.number (table_line t l.words) a.0 a.1)) a.2 (λ mid w h. table_lines_take mid ls end x w h)
   where
-    go : (b : Bool) (mid : Table) → IsTableLine t l.words b mid → cond b (Ok (mid, left_at l.number ls end)) (table_lines mid ls end) ≡ Ok x → ((mid : Table) → IsWhole mid → table_lines mid ls end ≡ Ok x → TableLines mid (items (lines_places ls end)) x.0 x.1)
+    go : (b : Bool) (mid : Table) → IsTableLine t l.words b mid → cond b (Ok (mid, left_at l.number ls end)) (table_lines mid ls end) ≡ Ok x → ((mid : Table) → HasAllCells mid → table_lines mid ls end ≡ Ok x → TableLines mid (items (lines_places ls end)) x.0 x.1)
         → TableLines t (items (lines_places (l ∷ ls) end)) x.0 x.1
     go true mid k e ih =
         let same = ok_is (mid, left_at l.number ls end) x e in
         subst (λ (y : Table × Unread). TableLines t (items (lines_places (l ∷ ls) end)) y.0 y.1) same (record {
           cells = [];
-          some = tt;
+          stand = tt;
           parts = items_line l.number l.words (lines_places ls end) ∙ ap (λ (v : Words). line_items v ++ items (lines_places ls end)) k.0;
           enters = k.1;
           ends = refl;
         })
     go false mid k e ih =
-        one_more_line t l.number l.words (lines_places ls end) mid x.0 x.1 k (ih mid (subst IsWhole (sym k.enters) (entered_whole t k.line whole)) e)
+        one_more_line t l.number l.words (lines_places ls end) mid x.0 x.1 k (ih mid (subst HasAllCells (sym k.enters) (entered_whole t k.line whole)) e)
 
 no_words : (ws : Words) (y : Unit {0}) → line_ends ws ≡ Ok y → ws ≡ []
 no_words [] y e = refl
 no_words (w ∷ ws) y e = absurd cc
 
-pub empty_whole : (name : List ℕ) → IsWhole (empty_table name)
+pub empty_whole : (name : List ℕ) → HasAllCells (empty_table name)
 empty_whole name = record { local = refl; snoop = refl }
 
 pub table_takes : (name : List ℕ) (u : Unread) (x : Table × Unread) → table_at name u ≡ Ok x → IsTable name u x.0 x.1
@@ -308,7 +307,7 @@ table_takes name u x e =
     let rest : List Item = items (lines_places x.1.lines x.1.end) in
     record {
       cells = found.cells;
-      some = found.some;
+      stand = found.stand;
       parts = items_line u.line u.words (lines_places u.lines u.end) ∙ (ap (λ (v : Words). line_items v ++ items (lines_places u.lines u.end)) none ∙ (ap (λ (xs : List Item). line_end ∷ xs) found.parts
           ∙ ap (λ (xs : List Item). line_end ∷ xs) (sym (rows_items found.cells rest))));
       value = found.enters;

@@ -1,12 +1,12 @@
 -- One alternative after another.
-use Rattle.std.proofs.Common.{◌≡◌, ℕ, zero, suc, ◌+◌, ◌-◌, ◌<◌, ◌≤◌, Bool, true, false, List, Result, Ok, Err, refl, sym, ap, ◌∙◌, arith, Option}
+use Rattle.std.proofs.Common.{◌≡◌, ℕ, suc, ◌+◌, ◌-◌, ◌<◌, ◌≤◌, Bool, true, false, List, Result, Ok, Err, refl, sym, ◌∙◌, arith, Option}
 use Rattle.class_relation.specs.Tables.{Table}
 use Rattle.table_text.specs.declared.fault.TableKind.{TableKind}
 use Rattle.table_text.specs.declared.fault.TableKind.TheVariants.{UnknownWord}
 use Rattle.table_text.specs.declared.fault.TableFault.{TableFault}
 use Rattle.table_text.specs.declared.fault.TableFault.TheVariants as faults
 use Rattle.fb_text.specs.Places.{Words}
-use Rattle.table_text.specs.Reading.{alternatives, no_room, Fails, ◌>>=◌}
+use Rattle.table_text.specs.Reading.{alternatives, no_room, Fails}
 
 module _ {A X : Type 0} (first : List ℕ → Option X) (read : TableKind → Words → Result (A × Bool × Words) TableKind) (add : Table → A → Table) (i : ℕ) (missing : TableKind) (t : Table) (ws : Words) where
   turn : i < 16 → 16 - i ≡ suc (16 - (i + 1))

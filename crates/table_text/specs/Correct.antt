@@ -1,20 +1,11 @@
 -- What it means that a table is read right.
 use Rattle.std.specs.Prelude.{◌≡◌, ℕ, ◌<◌, ◌≤◌, List, [], ◌∷◌, ◌++◌, length, Result, Ok, Err}
-use Rattle.std.specs.List.{AllByRecursion}
 use Rattle.fb_text.specs.Unread.{Unread}
 use Rattle.fb_text.specs.Places.{Place, items, lines_places, places, FirstFault}
 use Rattle.class_relation.specs.Tables.{Table, empty_table, locals_of, answers_of}
 use Rattle.table_text.specs.declared.fault.TableFault.{TableFault}
 use Rattle.table_text.specs.declared.fault.TableFault.TheVariants as faults
-use Rattle.table_text.specs.Spelling.{CellLine, local, answer, HasAlternative, table_items, table_of, entered, table_grammar}
-
--- what was unread is the text of the table, up to where the scan stands after it
-pub record IsTable (name : List ℕ) (u : Unread) (after : Table) (left : Unread) : Type 0 where
-  pub cells : List CellLine
-  pub some : AllByRecursion HasAlternative cells
-  pub parts : items (places u) ≡ table_items cells ++ items (lines_places left.lines left.end)
-  pub value : after ≡ table_of name cells
-  pub ends : left.words ≡ []
+use Rattle.table_text.specs.Spelling.{CellLine, local, answer, table_items, table_of, entered, table_grammar}
 
 -- a cell line that can stand behind others: its cell was not given, and it has one to sixteen alternatives
 abbrev pub CanStand : Table → CellLine → Type 0
@@ -24,6 +15,14 @@ CanStand t (answer s e alts) = (answers_of t s e ≡ []) × (0 < length alts) ×
 abbrev pub AllStand : Table → List CellLine → Type 0
 AllStand t [] = Unit {0}
 AllStand t (c ∷ cs) = CanStand t c × AllStand (entered t c) cs
+
+-- what was unread is the text of the table, of cell lines that can stand, up to where the scan stands after it
+pub record IsTable (name : List ℕ) (u : Unread) (after : Table) (left : Unread) : Type 0 where
+  pub cells : List CellLine
+  pub stand : AllStand (empty_table name) cells
+  pub parts : items (places u) ≡ table_items cells ++ items (lines_places left.lines left.end)
+  pub value : after ≡ table_of name cells
+  pub ends : left.words ≡ []
 
 -- the table was read, unless memory ran out
 abbrev pub IsReadAs : Result Table TableFault → Table → Type 0

@@ -1,9 +1,6 @@
 -- The one spelling in which a table is written.
-use Rattle.std.specs.Prelude.{◌≡◌, ℕ, true, List, [], ◌∷◌, ◌++◌, length, map, codes}
+use Rattle.std.specs.Prelude.{ℕ, List, [], ◌∷◌, ◌++◌, map, codes}
 use Rattle.fb_text.specs.Unread.{Unread, unread, at_next_line, after_word}
-use Rattle.class_relation.specs.Names.{is_name}
-use Rattle.class_relation.specs.Rows.{AtMostSixteen}
-use Rattle.fb_text.specs.Places.{Words}
 use Rattle.fb_text.specs.Written.{lines_bytes}
 use Rattle.moesi_state.specs.declared.State.{State}
 use Rattle.moesi_state.specs.declared.State.TheVariants.{M, O, E, S, I}
@@ -48,14 +45,6 @@ cells_bytes cells = lines_bytes (map cell_words cells)
 -- the head line, the cells in cell order, and the `end` line
 unfoldable pub written_table : Table → List ℕ
 written_table t = lines_bytes ((codes "table" ∷ t.name ∷ []) ∷ (map cell_words (cells_of t) ++ (codes "end" ∷ []) ∷ []))
-
--- what holds of every table: its name is one, it has every cell, and no cell has more than sixteen alternatives
-pub record IsProper (t : Table) : Type 0 where
-  pub name : is_name t.name ≡ true
-  pub local : length t.locals ≡ 20
-  pub snoop : length t.answers ≡ 45
-  pub few_local : AtMostSixteen t.locals
-  pub few_snoop : AtMostSixteen t.answers
 
 -- what a scan of these bytes has yet to give behind the first two words
 abbrev pub after_head : List ℕ → Unread

@@ -3,8 +3,8 @@
 ghost use Rattle.std.specs.Prelude.{◌≡◌, ℕ, [], ◌∷◌, true, codes, ◌++◌, List, IfOk, IfErr, OnOk};
 ghost use Rattle.table_text.specs.Words.{outcome_of, state_of};
 ghost use Rattle.table_text.specs.Reading.{Gives, GivesBar, FailsAs, StaysOnLine, IsLast, onto, signal_at, local_at, snoop_at, word_by, this_word, no_room, local_alternatives, snoop_alternatives, local_cell_at, snoop_cell_at, cell_line, line_ends, table_line, table_at, GivesTable};
-ghost use Rattle.table_text.specs.Writing.{written_table, IsProper, after_head};
-ghost use Rattle.class_relation.specs.Tables.{Table, empty_table, locals_of, answers_of};
+ghost use Rattle.table_text.specs.Writing.{written_table, after_head};
+ghost use Rattle.class_relation.specs.Tables.{Table, IsWhole, empty_table, locals_of, answers_of};
 ghost use Rattle.std.specs.Option.{option_copied};
 ghost use Rattle.fb_text.specs.Places.{Item, items, places};
 ghost use Rattle.table_text.specs.Spelling.{CellLine, table_items, table_of};
@@ -14,8 +14,8 @@ use crate::fault::{TableFault, TableKind};
 use crate::words::{bus_event_of, is, local_event_of, outcome_of, state_of};
 use bus_signals::{BusEvent, LocalEvent, Response};
 use class_relation::{LocalAction, Name, PushFault, SnoopAction, Table};
-use moesi_state::{Outcome, State};
 use fb_text::Scan;
+use moesi_state::{Outcome, State};
 use std::alloc::Global;
 
 /// A fault of this kind on the current line.
@@ -181,7 +181,7 @@ fn local_alternatives(
     Err(no_local_room(scan, missing))
 }
 
-/// The alternatives of a answer cell.
+/// The alternatives of an answer cell.
 fn snoop_alternatives(
     scan: &mut Scan,
     table: &mut Table,
@@ -314,7 +314,7 @@ pub fn read_table(alloc: Global, scan: &mut Scan, name: Name) -> Result<Table, T
     ensures only { (cells : List CellLine) (rest : List Item) → AllStand (empty_table name) cells
         → items (places scan.old) ≡ table_items cells ++ rest → IsReadAs result (table_of name cells) }
     // A table that was written is read again, whatever follows it.
-    ensures written { (t : Table) (rest : List ℕ) → IsProper t → name ≡ t.name → scan.old ≡ after_head (written_table t ++ rest) → IsReadAs result t }
+    ensures written { (t : Table) (rest : List ℕ) → IsWhole t → name ≡ t.name → scan.old ≡ after_head (written_table t ++ rest) → IsReadAs result t }
     // A fault is that of the first place at fault, with its line and its kind.
     ensures first { IfErr result (λ e. IsFirstFault e (places scan.old)) }
     // Which table or which fault it is.

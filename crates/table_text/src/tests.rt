@@ -1,8 +1,8 @@
 use super::*;
 use bus_signals::{BusEvent, LocalEvent};
 use class_relation::Name;
-use moesi_state::State;
 use fb_text::{Scan, Text};
+use moesi_state::State;
 use std::alloc::Global;
 use std::test::*;
 

@@ -2,17 +2,18 @@
 
 ghost use Rattle.std.specs.Prelude.{◌≡◌, ◌<◌, ◌≤◌, ◌+◌, ◌*◌, ◌++◌, ◌∷◌, [], length, codes, OnOk, OnErr};
 ghost use Rattle.fb_text.specs.Written.{after_words, line_bytes, lines_bytes};
-ghost use Rattle.class_relation.specs.Tables.{locals_of, answers_of};
+ghost use Rattle.class_relation.specs.Tables.{IsWhole, locals_of, answers_of};
 ghost use Rattle.table_text.specs.Words.{state_word, local_event_word, bus_event_word, outcome_word};
 ghost use Rattle.table_text.specs.Spelling.{local_words, snoop_words, signal_words, alternative_words, cell_words, local, answer};
-ghost use Rattle.table_text.specs.Writing.{local_line, snoop_line, state_lines, cells_of, cells_bytes, written_table, IsProper};
+ghost use Rattle.table_text.specs.Writing.{local_line, snoop_line, state_lines, cells_of, cells_bytes, written_table};
 
 use bus_signals::{BusEvent, LocalEvent};
 use class_relation::{LocalAction, SnoopAction, Table};
-use moesi_state::{Outcome, State};
 use fb_text::{NoMemory, Text};
+use moesi_state::{Outcome, State};
 
-fn state_text(state: State) -> &'static str
+/// The word of a state.
+pub fn state_text(state: State) -> &'static str
     ensures text { result.now ≡ state_word state }
     ensures short { length result.now ≡ 1 }
 {
@@ -25,7 +26,8 @@ fn state_text(state: State) -> &'static str
     }
 }
 
-fn local_event_text(event: LocalEvent) -> &'static str
+/// The word of a local event.
+pub fn local_event_text(event: LocalEvent) -> &'static str
     ensures text { result.now ≡ local_event_word event }
     ensures short { length result.now ≤ 5 }
 {
@@ -37,7 +39,8 @@ fn local_event_text(event: LocalEvent) -> &'static str
     }
 }
 
-fn bus_event_text(event: BusEvent) -> &'static str
+/// The word of a bus event.
+pub fn bus_event_text(event: BusEvent) -> &'static str
     ensures text { result.now ≡ bus_event_word event }
     ensures short { length result.now ≤ 3 }
 {
@@ -89,7 +92,8 @@ fn outcome(text: &mut Text, outcome: Outcome)
     }
 }
 
-fn local_action(text: &mut Text, action: LocalAction)
+/// Appends an alternative of a local event, each of its words behind a space. It has at most 11 bytes.
+pub fn write_local_action(action: LocalAction, text: &mut Text)
     requires { 11 ≤ text.old.spare }
     ensures bytes { text.new.bytes ≡ text.old.bytes ++ after_words (local_words action) }
     ensures spare { text.old.spare ≤ text.new.spare + 11 }
@@ -112,7 +116,8 @@ fn signal(text: &mut Text, holds: bool, name: &str)
     }
 }
 
-fn snoop_action(text: &mut Text, action: SnoopAction)
+/// Appends an answer, each of its words behind a space. It has at most 11 bytes.
+pub fn write_answer(action: SnoopAction, text: &mut Text)
     requires { 11 ≤ text.old.spare }
     ensures bytes { text.new.bytes ≡ text.old.bytes ++ after_words (snoop_words action) }
     ensures spare { text.old.spare ≤ text.new.spare + 11 }
@@ -133,7 +138,7 @@ fn local_alternatives(text: &mut Text, alternatives: &[LocalAction])
     let mut lead = b'=';
     for action in alternatives {
         mark(text, lead);
-        local_action(text, *action);
+        write_local_action(*action, text);
         lead = b'|';
     }
 }
@@ -148,7 +153,7 @@ fn snoop_alternatives(text: &mut Text, alternatives: &[SnoopAction])
     let mut lead = b'=';
     for action in alternatives {
         mark(text, lead);
-        snoop_action(text, *action);
+        write_answer(*action, text);
         lead = b'|';
     }
 }
@@ -223,7 +228,7 @@ const ROOM: usize = 16700;
 
 /// Appends the one written spelling of a table.
 pub fn write_table(table: &Table, text: &mut Text) -> Result<(), NoMemory>
-    ensures proper { OnOk result (IsProper table.now) }
+    ensures whole { OnOk result (IsWhole table.now) }
     ensures written { OnOk result (text.new.bytes ≡ text.old.bytes ++ written_table table.now) }
     ensures err { OnErr result (text.new ≡ text.old) }
 {
@@ -236,7 +241,7 @@ pub fn write_table(table: &Table, text: &mut Text) -> Result<(), NoMemory>
 
 fn head(text: &mut Text, table: &Table)
     requires { 39 ≤ text.old.spare }
-    ensures proper { IsProper table.now }
+    ensures whole { IsWhole table.now }
     ensures bytes { text.new.bytes ≡ text.old.bytes ++ line_bytes (codes "table" ∷ table.now.name ∷ []) }
     ensures spare { text.old.spare ≤ text.new.spare + 39 }
 {

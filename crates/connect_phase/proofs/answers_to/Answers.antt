@@ -1,8 +1,5 @@
-use Rattle.std.proofs.Common.{◌≡◌, ℕ, ◌+◌, ◌<◌, ◌≤◌, ◌∙◌, ap, sym, refl, arith, length, map, add-one, List, ◌⊎◌, inl, inr, suc}
-use Rattle.std.proofs.lemmas.Bool.{cases_lt}
-use Rattle.connect_phase.specs.Answering.{answer_from, AllBelow}
-use Rattle.journal.specs.Boards.{answer_boards}
-use Rattle.bus_model.specs.Events.{Answer}
+use Rattle.std.proofs.Common.{◌+◌, ◌∙◌, ap, arith, length, map, add-one}
+use Rattle.connect_phase.specs.Answering.{answer_from}
 use Rattle.connect_phase.proofs.Asking.{answers-more, holders-all, fewer-more}
 use Rattle.connect_phase.proofs.answers_to.Goals as goal
 

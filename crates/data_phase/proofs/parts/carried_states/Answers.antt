@@ -1,6 +1,4 @@
-use Rattle.std.proofs.Common.{◌≡◌, ◌<◌, length, get_or, ap}
-use Rattle.journal.specs.Boards.{state_boards}
-use Rattle.journal.specs.Rising.{IsAboveRest}
+use Rattle.std.proofs.Common.{◌≡◌, ◌<◌, length, get_or}
 use Rattle.bus_model.specs.Carrying.{master_state}
 use Rattle.data_phase.proofs.Lists.{states-above}
 use Rattle.data_phase.proofs.parts.carried_states.Goals as goal

@@ -1,7 +1,7 @@
-use Rattle.std.proofs.Common.{◌≡◌, ℕ, ◌<◌, ◌≤◌, List, [], ◌∷◌, ◌++◌, Bool, true, false, Result, Ok, sym, ◌∙◌, ap, arith, rules, length, subst}
+use Rattle.std.proofs.Common.{Ok, sym, ◌∙◌, ap, arith, rules, length, subst}
 use Rattle.std.proofs.lemmas.Result.{err_from_is_err_and}
 use Rattle.std.proofs.lemmas.List.{length_push}
-use Rattle.class_relation.specs.Tables.{Table, with_local, locals_of}
+use Rattle.class_relation.specs.Tables.{with_local, locals_of}
 use Rattle.table_text.specs.Words.{outcome_of}
 use Rattle.table_text.specs.Reading.{Fails, local_at}
 use Rattle.table_text.proofs.Turns.{one_more, last, fails, full}

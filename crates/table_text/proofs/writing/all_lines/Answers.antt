@@ -1,6 +1,6 @@
-use Rattle.std.proofs.Common.{◌≡◌, ℕ, List, [], ◌∷◌, ◌++◌}
+use Rattle.std.proofs.Common.{◌++◌}
 use Rattle.moesi_state.specs.declared.State.TheVariants.{M, O, E, S, I}
-use Rattle.table_text.specs.Writing.{state_lines, cells_of, cells_bytes}
+use Rattle.table_text.specs.Writing.{state_lines, cells_of}
 use Rattle.table_text.proofs.Writes.{more_cells}
 use Rattle.table_text.proofs.writing.all_lines.Goals as goal
 

@@ -1,7 +1,7 @@
-use Rattle.std.proofs.Common.{◌≡◌, ℕ, List, [], ◌∷◌, ◌++◌}
+use Rattle.std.proofs.Common.{◌++◌}
 use Rattle.bus_signals.specs.declared.LocalEvent.TheVariants.{Read, Write, Pass, Flush}
 use Rattle.bus_signals.specs.declared.BusEvent.TheVariants.{Rd, Rfo, Inv, Urd, Bwr, Uwr, Ubw, Pas, Flu}
-use Rattle.table_text.specs.Writing.{local_line, snoop_line, state_lines, cells_bytes}
+use Rattle.table_text.specs.Writing.{local_line, snoop_line, state_lines}
 use Rattle.table_text.proofs.Writes.{more_cells}
 use Rattle.table_text.proofs.writing.state_lines.Goals as goal
 

@@ -21,4 +21,4 @@ pub returns : goal.returns
 returns c =
     let locals : rows c.in-Ok.locals ≡ rows c.self.inside.locals = rows_again c.self.inside.locals c.in-Ok.locals c.in-Ok.ensures.cases.whole in
     let answers : rows c.in-Ok-clone.answers ≡ rows c.self.inside.answers = rows_again c.self.inside.answers c.in-Ok-clone.answers c.in-Ok-clone.ensures.cases.whole in
-    rw (locals, answers, c.copy.ensures, c.self.view_is) refl
+    rw (locals, answers, c.copy.ensures.copy, c.self.view_is) refl

@@ -1,0 +1,6 @@
+use Rattle.std.proofs.Common.{arith, ◌%◌, length}
+use Rattle.board.proofs.Among.{local-among}
+use Rattle.board.proofs.rack.local_at.Goals as goal
+
+pub returns-clause-among : goal.returns-clause-among
+returns-clause-among c = λ h. local-among c.args.actions.now (c.args.draw % length c.args.actions.now) _ (omega arith)

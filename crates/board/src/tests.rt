@@ -1,0 +1,194 @@
+//! One row through every call of the rack, and the draws of each chooser.
+
+ghost use Rattle.std.specs.Prelude.{◌≡◌, ◌<◌, [], ◌∷◌, length, IfOk};
+ghost use Rattle.table_check.specs.declared.boards.BoardSpec.{BoardSpec};
+ghost use Rattle.table_check.specs.declared.boards.Choose.{Choose};
+ghost use Rattle.table_check.specs.declared.boards.Shape.{Shape};
+
+use crate::station::Station;
+use crate::{Change, Rack};
+use bus_signals::{Addr, BoardNo, BusEvent, LineNo, LocalEvent, Response};
+use class_relation::{LocalAction, Name, PushFault, SnoopAction, Table};
+use moesi_state::{Outcome, State};
+use std::alloc::{AllocError, Global};
+use std::test::Fail;
+use table_check::{BoardSpec, Choose, Shape, accept};
+
+/// A board with one frame.
+fn small(number: u16, choose: Choose) -> BoardSpec
+    ensures { result ≡ record { number = number; table = 0; shape = Shape.Cached 1 1; choose = choose } }
+{
+    BoardSpec {
+        number,
+        table: 0,
+        shape: Shape::Cached { sets: 1, ways: 1 },
+        choose,
+    }
+}
+
+/// Adds a local alternative to a table.
+fn acts(
+    table: &mut Table,
+    state: State,
+    event: LocalEvent,
+    next: State,
+    bus: Option<BusEvent>,
+) -> Result<(), PushFault> {
+    let result = Outcome::Fixed(next);
+    table.push_local(state, event, LocalAction { result, bus })
+}
+
+/// Adds an answer to a table.
+fn answers(
+    table: &mut Table,
+    event: BusEvent,
+    next: State,
+    ch: bool,
+    sl: bool,
+) -> Result<(), PushFault> {
+    let response = Response { ch, di: false, sl };
+    table.push_snoop(
+        State::S,
+        event,
+        SnoopAction {
+            result: next,
+            response,
+        },
+    )
+}
+
+/// A write-through table that writes a word it does not hold plainly or broadcast.
+fn write_through(alloc: Global, name: Name) -> Result<Table, PushFault> {
+    let mut t = Table::empty(alloc, name);
+    acts(&mut t, State::S, LocalEvent::Read, State::S, None)?;
+    acts(
+        &mut t,
+        State::S,
+        LocalEvent::Write,
+        State::S,
+        Some(BusEvent::Uwr),
+    )?;
+    acts(&mut t, State::S, LocalEvent::Pass, State::S, None)?;
+    acts(&mut t, State::S, LocalEvent::Flush, State::I, None)?;
+    acts(
+        &mut t,
+        State::I,
+        LocalEvent::Read,
+        State::S,
+        Some(BusEvent::Rd),
+    )?;
+    acts(
+        &mut t,
+        State::I,
+        LocalEvent::Write,
+        State::I,
+        Some(BusEvent::Uwr),
+    )?;
+    acts(
+        &mut t,
+        State::I,
+        LocalEvent::Write,
+        State::I,
+        Some(BusEvent::Ubw),
+    )?;
+    acts(&mut t, State::I, LocalEvent::Pass, State::I, None)?;
+    acts(&mut t, State::I, LocalEvent::Flush, State::I, None)?;
+    answers(&mut t, BusEvent::Rd, State::S, true, false)?;
+    answers(&mut t, BusEvent::Rfo, State::I, false, false)?;
+    answers(&mut t, BusEvent::Inv, State::I, false, false)?;
+    answers(&mut t, BusEvent::Urd, State::S, false, false)?;
+    answers(&mut t, BusEvent::Bwr, State::S, true, true)?;
+    answers(&mut t, BusEvent::Uwr, State::I, false, false)?;
+    answers(&mut t, BusEvent::Ubw, State::S, false, true)?;
+    answers(&mut t, BusEvent::Pas, State::S, true, false)?;
+    answers(&mut t, BusEvent::Flu, State::S, false, false)?;
+    Ok(t)
+}
+
+/// A rack of two boards with one frame each, the second with a seeded chooser.
+fn rack(alloc: Global, name: &[u8]) -> Result<Rack, Fail>
+    ensures { IfOk result (λ rack. rack.specs ≡ record { number = 10; table = 0; shape = Shape.Cached 1 1; choose = Choose.Round } ∷ record { number = 9; table = 0; shape = Shape.Cached 1 1; choose = Choose.Seed 1 } ∷ [] × rack.rows ≡ []) }
+{
+    let Some(name) = Name::of(name) else {
+        return Err(Fail::from("no name"));
+    };
+    let table = write_through(alloc, name)?;
+    let Ok(table) = accept(alloc, table) else {
+        return Err(Fail::from("refused"));
+    };
+    let tables = Vec::from_array(alloc, [table])?;
+    let boards = Vec::from_array(alloc, [small(10, Choose::Round), small(9, Choose::Seed(1))])?;
+    let rack = Rack::new(alloc, boards, tables)?;
+    Ok(rack)
+}
+
+// The words of the generator, worked out by another program from its public description.
+#[test]
+fn draws_follow_the_chooser(rt: HostRuntime) -> Result<(), Fail> {
+    let rows = [
+        (Choose::First, [0, 0, 0, 0]),
+        (Choose::Round, [0, 1, 2, 3]),
+        (
+            Choose::Seed(1),
+            [866585574, 2109535214, 3403630417, 296513984],
+        ),
+        (
+            Choose::Seed(7),
+            [2442223337, 414063806, 2743600285, 3524868804],
+        ),
+    ];
+    for (choose, draws) in rows {
+        let mut station = Station::new(rt.alloc(), small(1, choose))?;
+        for draw in draws {
+            assert_eq!(rt; station.draw(), draw);
+            assert!(rt; station.spent() < 4);
+            station.spend();
+        }
+    }
+    Ok(())
+}
+
+#[test]
+fn boards_are_read(rt: HostRuntime) -> Result<(), Fail> {
+    let mut rack = rack(rt.alloc(), b"wt")?;
+    let board = BoardNo(2);
+    assert_eq!(rt; rack.boards(), 2);
+    assert_eq!(rt; rack.number(board), 9);
+    assert_eq!(rt; rack.table(board).name().bytes(), b"wt".as_slice());
+    // The first words of seed 1 are even, even and odd.
+    for bus in [BusEvent::Uwr, BusEvent::Uwr, BusEvent::Ubw] {
+        assert_eq!(rt; rack.boards(), 2);
+        let action = rack.decide(board, LineNo(3), LocalEvent::Write);
+        assert_eq!(rt; action.bus, Some(bus));
+        assert!(rt; rack.spent(board) < 3);
+        rack.spend(board);
+    }
+    assert_eq!(rt; rack.boards(), 2);
+    assert_eq!(rt; rack.spent(board), 3);
+    Ok(())
+}
+
+#[test]
+fn a_row_comes_and_goes(rt: HostRuntime) -> Result<(), Fail> {
+    let mut rack = rack(rt.alloc(), b"wt")?;
+    let board = BoardNo(1);
+    let line = LineNo(1);
+    assert_eq!(rt; rack.fills(board), 0);
+    rack.put_line(board, line, [1, 2, 3, 4], State::S);
+    assert_eq!(rt; rack.victim(board, LineNo(0)), Some(line));
+    assert_eq!(rt; rack.fill(board, line), Some(0));
+    assert_eq!(rt; rack.fills(board), 1);
+    rack.put_word(board, Addr(6), 7);
+    assert_eq!(rt; rack.word(board, Addr(6)), Some(7));
+    assert_eq!(rt; rack.words(board, line), Some([1, 2, 7, 4]));
+    let answer = rack.answer(board, line, BusEvent::Uwr);
+    assert_eq!(rt; answer.result, State::I);
+    rack.change(board, line, State::S, Change::Line([5, 6, 7, 8]));
+    assert_eq!(rt; rack.words(board, line), Some([5, 6, 7, 8]));
+    rack.put_copy(board, line, [0, 0, 0, 9], State::S);
+    assert_eq!(rt; rack.word(board, Addr(7)), Some(9));
+    assert_eq!(rt; rack.state_of(board, line), State::S);
+    rack.set_state(board, line, State::I);
+    assert_eq!(rt; rack.state_of(board, line), State::I);
+    Ok(())
+}
