@@ -13,6 +13,29 @@ all_of P [] each x there = absurd there
 all_of P (y ∷ ys) each x (inl e) = subst P (sym e) (each 0 y (omega arith))
 all_of P (y ∷ ys) each x (inr there) = all_of P ys (λ i d lt. each (suc i) d (omega arith)) x there
 
+pub first_is : (numbers : List ℕ) → wired_lines numbers ≡ lines_after numbers 0
+unfolding lines_after
+first_is numbers = refl
+
+pub next_is : (numbers : List ℕ) (k lines : ℕ) → lines ≡ lines_after numbers k → next_lines numbers lines ≡ lines_after numbers (suc k)
+unfolding lines_after
+next_is numbers k lines e = ap (next_lines numbers) e
+
+-- Each round so far changed the lines, and so did one more.
+pub differ_more : (numbers : List ℕ) (rounds : ℕ) → ((k : ℕ) → k < rounds → lines_after numbers (suc k) ≢ lines_after numbers k) → lines_after numbers (suc rounds) ≢ lines_after numbers rounds → (k : ℕ) → k < rounds + 1 → lines_after numbers (suc k) ≢ lines_after numbers k
+differ_more numbers rounds before last k less = go (cases_lt k rounds)
+  where
+    go : (k < rounds) ⊎ (rounds ≤ k) → lines_after numbers (suc k) ≢ lines_after numbers k
+    go (inl h) = before k h
+    go (inr h) = let same : rounds ≡ k = omega (arith, h, less) in subst (λ (i : ℕ). lines_after numbers (suc i) ≢ lines_after numbers i) same last
+
+-- What a search for the first round that changes nothing has found.
+pub record Found (numbers : List ℕ) (lines rounds : ℕ) : Type 0 where
+  pub shown : lines ≡ lines_after numbers rounds
+  pub within : rounds ≤ 7
+  pub differ : (k : ℕ) → k < rounds → lines_after numbers (suc k) ≢ lines_after numbers k
+  pub stays : lines_after numbers (suc rounds) ≡ lines_after numbers rounds
+
 module _ (numbers : List ℕ) (contest : IsContest numbers) where
   abbrev high : ℕ
   high = highest numbers
@@ -59,7 +82,7 @@ module _ (numbers : List ℕ) (contest : IsContest numbers) where
       ap (lines_after numbers) next ∙ ap (next_lines numbers) (still k r e) ∙ e
 
   -- Lines that a round leaves as they are show the highest number.
-  pub shows_highest : (r : ℕ) → r ≤ 7 → lines_after numbers (suc r) ≡ lines_after numbers r → lines_after numbers r ≡ high
+  shows_highest : (r : ℕ) → r ≤ 7 → lines_after numbers (suc r) ≡ lines_after numbers r → lines_after numbers r ≡ high
   shows_highest r within e =
       let place : (7 - r) + r ≡ 7 = omega (arith, within) in
       sym (still (7 - r) r e) ∙ ap (lines_after numbers) place ∙ at_seven
@@ -86,5 +109,17 @@ module _ (numbers : List ℕ) (contest : IsContest numbers) where
           let here : lines_after numbers (suc k) ≡ lines_after numbers k = subst (λ (i : ℕ). lines_after numbers (suc i) ≡ lines_after numbers i) same e in
           rw (eq-eqb (lines_after numbers (suc k)) (lines_after numbers k) here) (sym same)
 
-  pub rounds_are : (r : ℕ) → r ≤ 7 → ((i : ℕ) → i < r → lines_after numbers (suc i) ≢ lines_after numbers i) → lines_after numbers (suc r) ≡ lines_after numbers r → settled_rounds numbers ≡ r
+  rounds_are : (r : ℕ) → r ≤ 7 → ((i : ℕ) → i < r → lines_after numbers (suc i) ≢ lines_after numbers i) → lines_after numbers (suc r) ≡ lines_after numbers r → settled_rounds numbers ≡ r
   rounds_are r within differ e = search_finds 8 0 r (omega arith) (omega (arith, within)) differ e
+
+  pub found_settles : (lines rounds : ℕ) → Found numbers lines rounds → SettlesIn numbers lines rounds
+  found_settles lines rounds found = record { shown = found.shown; stays = found.stays; least = found.differ }
+
+  pub found_rounds : (lines rounds : ℕ) → Found numbers lines rounds → rounds ≡ settled_rounds numbers
+  found_rounds lines rounds found = sym (rounds_are rounds found.within found.differ found.stays)
+
+  pub found_lines : (lines rounds : ℕ) → Found numbers lines rounds → lines ≡ settled_lines numbers
+  found_lines lines rounds found = found.shown ∙ ap (lines_after numbers) (found_rounds lines rounds found)
+
+  pub found_highest : (lines rounds : ℕ) → Found numbers lines rounds → lines ≡ high
+  found_highest lines rounds found = found.shown ∙ shows_highest rounds found.within found.stays
