@@ -1,11 +1,11 @@
 -- What boards drive, where the lines agree with the highest number but for the low bits: it agrees in one bit more.
-use Rattle.std.proofs.Common.{◌≡◌, ℕ, zero, suc, ◌+◌, ◌-◌, ◌*◌, ◌/◌, ◌%◌, ◌^◌, ◌<◌, ◌≤◌, Bool, true, false, not, ◌&&◌, cond, List, [], ◌∷◌, map, refl, sym, ap, ◌∙◌, subst, arith, inl, inr, ◌⊎◌}
-use Rattle.std.specs.Prelude.{bit_or, ◌==◌}
+use Rattle.std.proofs.Common.{◌≡◌, ℕ, zero, suc, ◌+◌, ◌-◌, ◌*◌, ◌/◌, ◌%◌, ◌^◌, ◌<◌, ◌≤◌, Bool, true, false, not, ◌&&◌, cond, List, [], ◌∷◌, refl, sym, ap, ◌∙◌, subst, arith, inl, inr, ◌⊎◌}
+use Rattle.std.specs.Prelude.{bit_or}
 use Rattle.std.specs.List.{AllByRecursion}
-use Rattle.std.proofs.lemmas.Bool.{eqb-true, eqb-false, eq-eqb, ne_eqb}
+use Rattle.std.proofs.lemmas.Bool.{eqb-true, eqb-false}
 use Rattle.std.proofs.lemmas.Nat.{shl-shr, shr-shr, shr_split, shr_le, pow-add, pow_pos, or_shr, or_comm, mod_below, le-div}
 use Rattle.settling.specs.Settling.{wired_lines, has_bit, driven_below}
-use Rattle.arbiter.proofs.Cover.{Covers, covers_zero, covers_or, covers_half, covers_shifted, covers_self}
+use Rattle.arbiter.proofs.Cover.{Covers, covers_zero, covers_or, covers_half, covers_shifted}
 use Rattle.arbiter.proofs.Members.{In}
 
 -- ---- quotients
@@ -74,7 +74,7 @@ kept_from lines n (suc k) j h = go (disagrees lines n k) (kept_from lines n k j 
     cleared =
         let place : k + (j - k) ≡ j = omega (arith, h) in
         let split : (n / 2 ^ k * 2 ^ k) / 2 ^ (k + (j - k)) ≡ n / 2 ^ (k + (j - k)) =
-            sym (shr-shr (n / 2 ^ k * 2 ^ k) k (j - k)) ∙ ap (λ x. x / 2 ^ (j - k)) (shl-shr (n / 2 ^ k) k) ∙ shr-shr n k (j - k) in
+        sym (shr-shr (n / 2 ^ k * 2 ^ k) k (j - k)) ∙ ap (λ x. x / 2 ^ (j - k)) (shl-shr (n / 2 ^ k) k) ∙ shr-shr n k (j - k) in
         subst (λ (i : ℕ). (n / 2 ^ k * 2 ^ k) / 2 ^ i ≡ n / 2 ^ i) place split
 
     go : (b : Bool) → driven_below k lines n / 2 ^ j ≡ n / 2 ^ j → cond b (n / 2 ^ k * 2 ^ k) (driven_below k lines n) / 2 ^ j ≡ n / 2 ^ j

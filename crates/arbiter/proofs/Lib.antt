@@ -3,3 +3,4 @@ pub mod Members
 pub mod Driven
 pub mod Wired
 pub mod Settles
+pub mod Requesting

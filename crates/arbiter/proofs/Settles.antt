@@ -1,7 +1,7 @@
 -- The lines of a contest settle to the highest number in at most seven rounds, and a search for the first round that changes nothing finds the one that the definition finds.
-use Rattle.std.proofs.Common.{◌≡◌, ◌≢◌, ℕ, zero, suc, ◌+◌, ◌-◌, ◌/◌, ◌^◌, ◌<◌, ◌≤◌, Bool, true, false, cond, List, [], ◌∷◌, map, length, refl, sym, ap, ◌∙◌, subst, arith, inl, inr, ◌⊎◌}
+use Rattle.std.proofs.Common.{◌≡◌, ◌≢◌, ℕ, zero, suc, ◌+◌, ◌-◌, ◌/◌, ◌^◌, ◌<◌, ◌≤◌, cond, List, [], ◌∷◌, map, refl, sym, ap, ◌∙◌, subst, arith, inl, inr, ◌⊎◌}
 use Rattle.std.specs.Prelude.{All, ◌==◌}
-use Rattle.std.proofs.lemmas.Bool.{eqb-true, eq-eqb, ne_eqb, cases_lt}
+use Rattle.std.proofs.lemmas.Bool.{eq-eqb, ne_eqb, cases_lt}
 use Rattle.settling.specs.Settling.{wired_lines, driven, next_lines, lines_after, rounds_from, settled_rounds, settled_lines, SettlesIn, highest}
 use Rattle.arbiter.specs.Contests.{IsNumber, IsContest}
 use Rattle.arbiter.proofs.Cover.{Covers, covers_half}

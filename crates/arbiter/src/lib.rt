@@ -2,7 +2,12 @@
 #![tactic(auto)]
 
 mod contest;
+mod requests;
 mod steps;
 
 pub use contest::{Settled, settle};
+pub use requests::{Grant, Requests};
 pub use steps::Steps;
+
+#[cfg(test)]
+mod tests;

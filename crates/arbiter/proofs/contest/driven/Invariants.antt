@@ -1,4 +1,4 @@
-use Rattle.std.proofs.Common.{◌≡◌, ◌≤◌, ℕ}
+use Rattle.std.proofs.Common.{◌≡◌, ◌≤◌}
 use Rattle.settling.specs.Settling.{driven_below}
 use Rattle.arbiter.proofs.contest.driven.Given as goal
 
