@@ -44,7 +44,6 @@ use Rattle.std.proofs.lemmas.Bool.{and_parts, cases_lt, eq-eqb, eqb-false, eqb-t
 use Rattle.std.specs.List.{AllByRecursion}
 use Rattle.std.specs.Prelude.{IsTrue, is_some, ◌==◌}
 use Rattle.table_check.proofs.Accepting.{needed_answer, needed_local}
-use Rattle.table_check.specs.KnownTables.{quiet}
 
 -- ---- boards that share a line
 
@@ -238,9 +237,6 @@ module _ (setup : Setup) (events : List Event) (c : Configuration) (well : WellF
 
         same : action ≡ silently (settled action.result false)
         same = λ i. record { result = fixed i; bus = none i }
-
-        local_event : Event
-        local_event = Local board (state_at c.rows board line) (settled action.result false) (record { access = access; reply = reply_of access (words_at c.rows board line) })
 
         go : (b : Bool) → (is_held c.phase board line && not (is_quiet access (state_at c.rows board line) (settled action.result false))) ≡ b → cond b (Waits (LineHeld (bus_holder c.phase) line)) (Did (Local board (state_at c.rows board line) (settled action.result false) (record { access = access; reply = reply_of access (words_at c.rows board line) }))) ≡ Did event → Can setup c event
         go true e h = cc

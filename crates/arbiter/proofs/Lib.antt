@@ -1,0 +1,6 @@
+pub mod Cover
+pub mod Members
+pub mod Driven
+pub mod Wired
+pub mod Settles
+pub mod Requesting

@@ -1,0 +1,9 @@
+use Rattle.std.proofs.Common.{◌≡◌, ◌≤◌}
+use Rattle.settling.specs.Settling.{driven_below}
+use Rattle.arbiter.proofs.contest.driven.Given as goal
+
+abbrev pub decreases-loop-bit : goal.decreases-loop-bit
+decreases-loop-bit l = l.bit
+
+abbrev pub invariant-loop-bit : goal.invariant-loop-bit
+invariant-loop-bit l = (l.bit ≤ 8) × (driven_below 8 l.lines l.number ≡ driven_below l.bit l.lines l.number)
