@@ -1,0 +1,11 @@
+//! The frames that all caches share: a fixed number of lines of words, each free or out.
+#![tactic(auto)]
+
+mod order;
+mod pool;
+
+pub use no_memory::NoMemory;
+pub use pool::{FrameNo, LinePool};
+
+#[cfg(test)]
+mod tests;
