@@ -16,3 +16,11 @@ count_given (x ∷ xs) (suc i) h e = let rest = count_given xs i (omega arith) e
 pub count_none : (n : ℕ) → count_out (replicate n false) ≡ 0
 count_none zero = refl
 count_none (suc n) = let rest = count_none n in omega (arith, rest)
+
+-- Where each is out, as many are out as there are.
+pub count_all : (xs : List Bool) → ((i : ℕ) → i < length xs → slice_index_or xs i false ≡ true) → count_out xs ≡ length xs
+count_all [] each = refl
+count_all (x ∷ xs) each =
+    let first : x ≡ true = each 0 (omega arith) in
+    let rest = count_all xs (λ i h. each (suc i) (omega (arith, h))) in
+    rw first (omega (arith, rest))

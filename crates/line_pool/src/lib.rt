@@ -5,7 +5,7 @@ mod order;
 mod pool;
 
 pub use no_memory::NoMemory;
-pub use pool::{FrameNo, LinePool};
+pub use pool::{FrameNo, LinePool, frames_are_free_or_out};
 
 #[cfg(test)]
 mod tests;

@@ -1,7 +1,7 @@
 //! A pool of frames.
 
-ghost use Rattle.std.specs.Prelude.{◌≡◌, ◌↔◌, ◌+◌, ◌<◌, ◌≤◌, true, false, length, slice_index, slice_set, IfOk, IfSome, IfNone, IsNone};
-ghost use Rattle.line_pool.specs.Pools.{all_free, IsOut, IsFree, AllOut, count_out, words_of, with_out, with_words};
+ghost use Rattle.std.specs.Prelude.{ℕ, ◌≡◌, ◌⊎◌, ◌↔◌, ◌+◌, ◌<◌, ◌≤◌, true, false, length, slice_index, slice_set, IfOk, IfSome, IfNone, IsNone};
+ghost use Rattle.line_pool.specs.Pools.{Pool, all_free, IsOut, IsFree, AllOut, count_out, words_of, with_out, with_words};
 ghost use Rattle.line_pool.specs.Kept.{IsOrder, out_of};
 
 use crate::order::{first_order, move_frame};
@@ -42,6 +42,13 @@ impl Model for LinePool {
 
     ghost invariant = { λ p. IsKept p.order.items p.place.items p.words.items p.free };
 }
+
+/// Each frame of a pool is free or out, and none is both. A frame is free while fewer are out than there are.
+pub fn frames_are_free_or_out()
+    ensures either { (pool : Pool) (frame : ℕ) → frame < length pool.out → IsFree pool frame ⊎ IsOut pool frame }
+    ensures never_both { (pool : Pool) (frame : ℕ) → IsFree pool frame → ¬ (IsOut pool frame) }
+    ensures some_free { (pool : Pool) → count_out pool.out < length pool.out → ¬ (AllOut pool) }
+{}
 
 /// A pool with its memory, which may not be there.
 fn made(alloc: Global, frames: u32) -> Result<LinePool, AllocError>
