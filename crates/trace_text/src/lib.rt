@@ -10,3 +10,4 @@ mod words;
 pub use journal::{
     Answer, Answers, Carried, Connected, Done, Event, Places, Source, States, Takers,
 };
+pub use reading::read_event;

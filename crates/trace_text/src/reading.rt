@@ -1,6 +1,6 @@
 //! Reading the line of an event.
 
-ghost use Rattle.std.specs.Prelude.{◌≡◌, ◌≤◌, ◌<◌, ◌+◌, ◌^◌, [], ◌++◌, ◌∷◌, ℕ, List, Some, IfSome, IfNone};
+ghost use Rattle.std.specs.Prelude.{◌≡◌, ◌≢◌, ◌≤◌, ◌++◌, ◌∷◌, ℕ, List, Some, None, IfSome, IfNone};
 ghost use Rattle.std.specs.List.{before_first};
 ghost use Rattle.fb_text.specs.Lines.{is_line_feed};
 ghost use Rattle.class_words.specs.Words.{state_of, local_event_of, bus_event_of, outcome_of};
@@ -437,6 +437,18 @@ fn event(line: &mut Pieces) -> Option<Event>
     } else {
         None
     }
+}
+
+/// Reads the line of an event, without its line feed.
+pub fn read_event(line: &[u8]) -> Option<Event>
+    // What is read is the event in range whose line this is, and nothing is read exactly where there is none.
+    ensures spelled { IfSome result (λ e. InRange e × (line.now ≡ text_of_event e)) }
+    ensures only { (e : Event) → InRange e → line.now ≡ text_of_event e → result ≡ Some e }
+    ensures none { IfNone result ((e : Event) → InRange e → line.now ≢ text_of_event e) }
+    // A line that was written is read again, whatever follows it.
+    ensures again { (e : Event) (rest : List ℕ) → InRange e → line.now ≡ before_first is_line_feed (line_of_event e ++ rest) → result ≡ Some e }
+{
+    found(line)
 }
 
 fn found(line: &[u8]) -> Option<Event>
