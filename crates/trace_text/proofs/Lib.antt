@@ -12,3 +12,4 @@ pub mod Again
 pub mod Ink
 pub mod Lines
 pub mod Lengths
+pub mod Behind
