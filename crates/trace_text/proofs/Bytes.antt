@@ -1,7 +1,7 @@
 -- Texts that are cut at a byte and joined by it again.
-use Rattle.std.proofs.Common.{◌≡◌, ℕ, ◌+◌, ◌<◌, ◌≤◌, ◌^◌, ◌⊎◌, ⊎_elim, inl, inr, Bool, true, false, cond, eqb, ltb, not, ◌&&◌, List, [], ◌∷◌, ◌++◌, map, refl, sym, ap, ◌∙◌, arith, eq-eqb, ne_eqb}
+use Rattle.std.proofs.Common.{◌≡◌, ℕ, ◌<◌, ◌≤◌, ◌^◌, ◌⊎◌, ⊎_elim, Bool, true, false, eqb, ltb, ◌&&◌, List, [], ◌∷◌, ◌++◌, refl, ap, ◌∙◌, arith, eq-eqb, ne_eqb}
 use Rattle.std.specs.Prelude.{decimal}
-use Rattle.std.specs.List.{slice_split, onto_first, join_with_byte, list_all, AllByRecursion}
+use Rattle.std.specs.List.{onto_first, join_with_byte, list_all, AllByRecursion}
 use Rattle.std.proofs.lemmas.Bool.{ltb-true, lt-ltb}
 use Rattle.fb_text.specs.Places.{Words}
 use Rattle.trace_text.specs.Reading.{pieces}

@@ -1,5 +1,5 @@
 -- Events are read exactly where they are spelled and in range.
-use Rattle.std.proofs.Common.{◌≡◌, ℕ, ◌+◌, ◌<◌, ◌≤◌, ◌^◌, Bool, true, false, cond, List, [], ◌∷◌, ◌++◌, map, Option, Some, None, refl, sym, ap, ◌∙◌, subst, arith}
+use Rattle.std.proofs.Common.{◌≡◌, ℕ, ◌<◌, ◌≤◌, ◌^◌, Bool, true, false, cond, List, [], ◌∷◌, ◌++◌, map, Option, Some, None, refl, sym, ap, ◌∙◌, subst, arith}
 use Rattle.std.specs.Prelude.{decimal, codes}
 use Rattle.std.specs.Str.{bytes_eq}
 use Rattle.fb_text.specs.Places.{Words}
@@ -15,14 +15,14 @@ use Rattle.journal.specs.declared.event.Carried.{Carried}
 use Rattle.journal.specs.declared.event.Event.{Event}
 use Rattle.journal.specs.declared.event.Event.TheVariants.{Local, Drop, Raise, Grant, Connect, DataPhase}
 use Rattle.class_words.specs.Words.{state_word, bus_event_word, outcome_word, state_of, bus_event_of, outcome_of}
-use Rattle.class_words.proofs.WordLaws.{state_is, state_again, bus_event_is, bus_event_again, outcome_is, outcome_again}
+use Rattle.class_words.proofs.WordLaws.{state_is, bus_event_is, outcome_is}
 use Rattle.trace_text.specs.Spelling.{placed_word, answers_words, source_word, taker_parts, takers_text, done_words, carried_words, event_words}
-use Rattle.trace_text.specs.Ranges.{IsBoard, IsLine, IsSource, IsDone, IsCarried, AreAnswers, ArePlaces, AreStates, InRange}
-use Rattle.trace_text.specs.Reading.{◌>>=◌, number_between, board_of, source_of, takers_of, answers_at, ended, by, this, states_at, done_at, carried_at, local_at, drop_at, raise_at, grant_at, connect_at, data_at, event_at}
+use Rattle.trace_text.specs.Ranges.{IsBoard, IsSource, ArePlaces, InRange}
+use Rattle.trace_text.specs.Reading.{◌>>=◌, number_between, board_of, source_of, takers_of, answers_at, by, this, states_at, done_at, carried_at, local_at, drop_at, raise_at, grant_at, connect_at, data_at, event_at}
 use Rattle.trace_text.proofs.Binds.{bind_some, some_same, is_word, by_some, this_some, ended_some}
-use Rattle.trace_text.proofs.Numbers.{number_between_is, number_between_again, board_is, board_again}
-use Rattle.trace_text.proofs.Spelled.{source_is, source_again}
-use Rattle.trace_text.proofs.Whole.{takers_is, takers_again, answers_at_is, answers_at_again, states_at_is, states_at_again, done_at_is, done_at_again, carried_at_is, carried_at_again}
+use Rattle.trace_text.proofs.Numbers.{number_between_is, board_is}
+use Rattle.trace_text.proofs.Spelled.{source_is}
+use Rattle.trace_text.proofs.Whole.{takers_is, answers_at_is, states_at_is, done_at_is, carried_at_is}
 
 -- ---- one step, and then the rest
 

@@ -13,7 +13,7 @@ use Rattle.trace_text.specs.Spelling.{answer_word, placed_word}
 use Rattle.trace_text.specs.Ranges.{IsBoard, AreBoards}
 use Rattle.trace_text.specs.Reading.{last_of, board_of, added_place, more_places, answer_of, added_answer, more_answers, placed_of, added_state, more_states}
 use Rattle.trace_text.proofs.Binds.{some_same, is_word}
-use Rattle.trace_text.proofs.Lasts.{last-push, map-push}
+use Rattle.trace_text.proofs.Lasts.{last-push}
 use Rattle.trace_text.proofs.Longer.{places_end, places_none, places_more, answers_end, answers_none, answers_more, answer_last, states_end, states_done, states_none, states_more, state_last}
 use Rattle.trace_text.proofs.Numbers.{board_is, board_again}
 use Rattle.trace_text.proofs.Spelled.{answer_is, answer_again, placed_is, placed_again}

@@ -1,5 +1,5 @@
 -- The words of an event have no byte up to the space.
-use Rattle.std.proofs.Common.{◌≡◌, ℕ, ◌+◌, ◌<◌, ◌≤◌, ◌^◌, Bool, true, false, List, [], ◌∷◌, ◌++◌, length, map, Option, Some, None, refl, sym, ap, ◌∙◌, arith}
+use Rattle.std.proofs.Common.{◌≡◌, ℕ, ◌<◌, ◌≤◌, Bool, true, false, List, [], ◌∷◌, ◌++◌, length, map, Option, Some, None, refl, arith}
 use Rattle.std.specs.Prelude.{decimal, codes}
 use Rattle.std.specs.List.{AllByRecursion}
 use Rattle.fb_text.specs.Places.{Words}
@@ -126,9 +126,34 @@ words_ink (Drop b l before) h = let k = h.1 in (refl, (board_ink b h.0.1, (refl,
 words_ink (Raise b) h = (refl, (board_ink b h.1, tt))
 words_ink (Grant by winner lines rounds) h = let n = h.2.1 in let r = h.3 in (refl, (board_ink by h.0.1, (refl, (board_ink winner h.1.1, (refl, (number_ink lines (omega arith), (refl, (number_ink rounds (omega arith), tt))))))))
 words_ink (Connect c) h = let k = h.1 in (refl, (board_ink c.master h.0.1, (event_ink c.event, (refl, (number_ink c.line (omega arith), (refl, (outcome_ink c.outcome, (refl, answers_ink c.answers h.2.1.each))))))))
-words_ink (DataPhase d) h = let k = h.1 in
-    (refl, (board_ink d.master h.0.1, (event_ink d.event, (refl, (number_ink d.line (omega arith), (refl, (source_ink d.source h.2, (refl, (text_ink (taker_parts d.takers.memory d.takers.boards) (parts_ink d.takers.memory d.takers.boards h.3.1.each),
-    (refl, ink_words (map placed_word d.states) (codes "done" ∷ carried_words d.done) (states_ink d.master d.states h.0.1 h.4) (refl, carried_ink d.done h.5)))))))))))
+words_ink (DataPhase d) h = let k = h.1 in (
+  refl,
+  (
+    board_ink d.master h.0.1,
+    (
+      event_ink d.event,
+      (
+        refl,
+        (
+          number_ink d.line (omega arith),
+          (
+            refl,
+            (
+              source_ink d.source h.2,
+              (
+                refl,
+                (
+                  text_ink (taker_parts d.takers.memory d.takers.boards) (parts_ink d.takers.memory d.takers.boards h.3.1.each),
+                  (refl, ink_words (map placed_word d.states) (codes "done" ∷ carried_words d.done) (states_ink d.master d.states h.0.1 h.4) (refl, carried_ink d.done h.5)),
+                ),
+              ),
+            ),
+          ),
+        ),
+      ),
+    ),
+  ),
+)
 
 pub some_words : (e : Event) → 0 < length (event_words e)
 some_words (Local b before after done) = omega arith

@@ -1,5 +1,5 @@
 -- The last board of a list.
-use Rattle.std.proofs.Common.{◌≡◌, ℕ, ◌<◌, List, [], ◌∷◌, ◌++◌, map, refl, sym, ap, ◌∙◌}
+use Rattle.std.proofs.Common.{◌≡◌, ℕ, ◌<◌, List, [], ◌∷◌, ◌++◌, map, refl, ap}
 use Rattle.journal.specs.Rising.{IsAboveLast}
 use Rattle.trace_text.specs.Reading.{last_of}
 

@@ -14,7 +14,7 @@ use Rattle.trace_text.proofs.Binds.{some_same}
 use Rattle.trace_text.proofs.Bytes.{NoneOf, NoneIn, split_joined, joined_none, ink_in}
 use Rattle.trace_text.proofs.Ink.{words_ink, some_words}
 use Rattle.trace_text.proofs.Again.{event_again}
-use Rattle.trace_text.proofs.Events.{event_is, IsSpelled}
+use Rattle.trace_text.proofs.Events.{event_is}
 
 split_words : (ws : Words) → 0 < length ws → NoneIn 32 ws → pieces 32 (join_with_byte 32 ws) ≡ ws
 split_words [] some none = absurd (omega arith)

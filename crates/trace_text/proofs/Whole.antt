@@ -1,7 +1,7 @@
 -- Takers, answers, states and completed accesses are read exactly where they are spelled and in range.
-use Rattle.std.proofs.Common.{◌≡◌, ◌≢◌, ℕ, ◌+◌, ◌<◌, ◌≤◌, ◌^◌, ◌⊎◌, inl, inr, Bool, true, false, cond, eqb, List, [], ◌∷◌, ◌++◌, length, map, drop, Option, Some, None, refl, sym, ap, ◌∙◌, subst, arith, eq-eqb, append-nil}
+use Rattle.std.proofs.Common.{◌≡◌, ℕ, ◌<◌, ◌≤◌, ◌^◌, inl, Bool, true, false, cond, eqb, List, [], ◌∷◌, ◌++◌, length, map, Option, Some, None, refl, sym, ap, ◌∙◌, subst, arith, eq-eqb}
 use Rattle.std.specs.Prelude.{decimal, codes}
-use Rattle.std.specs.List.{AllByRecursion, join_with_byte}
+use Rattle.std.specs.List.{join_with_byte}
 use Rattle.std.specs.Str.{bytes_eq}
 use Rattle.std.proofs.lemmas.Bool.{eqb-true}
 use Rattle.std.proofs.lemmas.List.Splits.{join_with_byte-slice_split}
@@ -17,15 +17,15 @@ use Rattle.journal.specs.declared.event.Done.{Done}
 use Rattle.journal.specs.declared.event.Takers.{Takers}
 use Rattle.journal.specs.Boards.{answer_boards, state_boards}
 use Rattle.class_words.specs.Words.{local_event_word, local_event_of}
-use Rattle.class_words.proofs.WordLaws.{local_event_is, local_event_again}
+use Rattle.class_words.proofs.WordLaws.{local_event_is}
 use Rattle.trace_text.specs.Spelling.{placed_word, answer_word, answers_words, taker_parts, takers_text, access_words, reply_words, done_words, carried_words}
-use Rattle.trace_text.specs.Ranges.{IsBoard, AreBoards, IsAddress, IsValue, IsReplied, IsDone, IsCarried, AreAnswers, ArePlaces, AreStates}
+use Rattle.trace_text.specs.Ranges.{IsBoard, IsAddress, IsValue, IsReplied, IsDone, IsCarried, AreAnswers, ArePlaces, AreStates}
 use Rattle.trace_text.specs.Reading.{◌>>=◌, pieces, board_of, number_between, added_place, more_places, takers, takers_in, takers_of, answer_of, added_answer, more_answers, answers_at, ended, by, this, placed_of, more_states, states_at, done, read_as, written_as, done_with, done_as, done_at, carried_at}
 use Rattle.trace_text.proofs.Binds.{bind_some, some_same, is_word, by_some, this_some, ended_some}
 use Rattle.trace_text.proofs.Numbers.{number_between_is, number_between_again, board_is, board_again}
-use Rattle.trace_text.proofs.Bytes.{NoneOf, NoneIn, split_joined, decimal_none}
-use Rattle.trace_text.proofs.Spelled.{answer_is, answer_again, placed_is, placed_again, none_is_no_number}
-use Rattle.trace_text.proofs.Grown.{Above, boards_above, above_boards, ReadPlaces, places_again, places_is, added_place_is, ReadAnswers, answers_again, answers_is, added_answer_is, ReadStates, states_again, states_are}
+use Rattle.trace_text.proofs.Bytes.{NoneIn, split_joined, decimal_none}
+use Rattle.trace_text.proofs.Spelled.{answer_is, answer_again, placed_is, placed_again}
+use Rattle.trace_text.proofs.Grown.{Above, boards_above, above_boards, places_again, places_is, added_place_is, answers_again, answers_is, added_answer_is, ReadStates, states_again, states_are}
 
 -- ---- takers
 

@@ -47,24 +47,26 @@ fitting least most (Some n) = if nat_le n most then (if nat_lt n least then None
 abbrev pub number_between : ℕ → ℕ → List ℕ → Option ℕ
 number_between least most w = fitting least most (number_of w)
 
--- A board.
+-- The board that a word spells.
 abbrev pub board_of : List ℕ → Option ℕ
 board_of w = number_between 1 16 w
 
--- Both sides of the one `=` of a word.
+-- Two pieces, and no more.
 abbrev pub two_sides : Words → Option (List ℕ × List ℕ)
 two_sides [] = None
 two_sides (a ∷ []) = None
 two_sides (a ∷ b ∷ []) = Some (a, b)
 two_sides (a ∷ b ∷ c ∷ more) = None
 
+-- Both sides of the one `=` of a word.
 abbrev pub sides_of : List ℕ → Option (List ℕ × List ℕ)
 sides_of w = two_sides (pieces 61 w)
 
--- A board and a state.
+-- The board and the state that a word spells.
 unfoldable pub placed_of : List ℕ → Option (ℕ × State)
 placed_of w = sides_of w >>= λ s. board_of s.0 >>= λ b. state_of s.1 >>= λ state. Some (b, state)
 
+-- The signals of an answer.
 abbrev pub response : Bool → Bool → Bool → Response
 response ch di sl = record { ch = ch; di = di; sl = sl }
 
@@ -84,11 +86,11 @@ response_of w =
 unfoldable pub action_of : List ℕ → Option SnoopAction
 action_of w = state_of (take 1 w) >>= λ state. response_of (drop 1 w) >>= λ r. Some (record { result = state; response = r })
 
--- An answer.
+-- The answer that a word spells.
 unfoldable pub answer_of : List ℕ → Option Answer
 answer_of w = sides_of w >>= λ s. board_of s.0 >>= λ b. action_of s.1 >>= λ a. Some (record { board = b; action = a })
 
--- A source.
+-- The source that a word spells.
 unfoldable pub source_of : List ℕ → Option Source
 source_of w = if bytes_eq w (codes "none") then Some Nobody else (if bytes_eq w (codes "memory") then Some Memory else (board_of w >>= λ b. Some (Board b)))
 
@@ -110,6 +112,7 @@ unfoldable pub more_places : List ℕ → Words → Option (List ℕ)
 more_places places [] = Some places
 more_places places (w ∷ ws) = added_place places (board_of w) >>= λ longer. more_places longer ws
 
+-- Takers, from whether the memory takes and the boards that do.
 abbrev pub takers : Bool → List ℕ → Takers
 takers memory boards = record { memory = memory; boards = boards }
 
@@ -120,7 +123,7 @@ takers_in (w ∷ ws) =
     if bytes_eq w (codes "memory") then (more_places [] ws >>= λ boards. Some (takers true boards))
     else (added_place [] (board_of w) >>= λ one. more_places one ws >>= λ boards. Some (takers false boards))
 
--- Takers.
+-- The takers that a word spells.
 unfoldable pub takers_of : List ℕ → Option Takers
 takers_of w = if bytes_eq w (codes "none") then Some (takers false []) else takers_in (pieces 44 w)
 
@@ -158,7 +161,7 @@ more_states master states (w ∷ ws) =
 
 -- ---- places in a line: a value and the words after it
 
--- The value of a word, where there is one.
+-- The value of a word in front of the words after it.
 abbrev pub behind : {A : Type 0} → Words → Option A → Option (A × Words)
 behind ws None = None
 behind ws (Some x) = Some (x, ws)
@@ -177,6 +180,7 @@ this v (w ∷ ws) = if bytes_eq w v then Some ws else None
 unfoldable pub states_at : ℕ → Words → Option (List (ℕ × State) × Words)
 states_at master ws = by placed_of ws >>= λ p. if p.0.0 == master then more_states master (p.0 ∷ []) p.1 else None
 
+-- A completed access and its reply.
 abbrev pub done : Access → Option ℕ → Done
 done access reply = record { access = access; reply = reply }
 
@@ -210,31 +214,37 @@ carried_at (w ∷ ws) = if bytes_eq w (codes "evict") then ended None ws else (d
 
 -- ---- events, behind their first word
 
+-- A local event.
 unfoldable pub local_at : Words → Option Event
 local_at ws =
     by board_of ws >>= λ b. by state_of b.1 >>= λ before. this (codes "to") before.1 >>= λ to. by state_of to >>= λ after.
     this (codes "done") after.1 >>= λ more. done_at more >>= λ d. Some (Local b.0 before.0 after.0 d)
 
+-- A drop.
 unfoldable pub drop_at : Words → Option Event
 drop_at ws =
     by board_of ws >>= λ b. this (codes "line") b.1 >>= λ line. by (number_between 0 4095) line >>= λ l.
     this (codes "from") l.1 >>= λ from. by state_of from >>= λ before. ended (Drop b.0 l.0 before.0) before.1
 
+-- A raise.
 unfoldable pub raise_at : Words → Option Event
 raise_at ws = by board_of ws >>= λ b. ended (Raise b.0) b.1
 
+-- A grant.
 unfoldable pub grant_at : Words → Option Event
 grant_at ws =
     by board_of ws >>= λ b. this (codes "to") b.1 >>= λ to. by board_of to >>= λ winner. this (codes "lines") winner.1 >>= λ lines.
     by (number_between 1 255) lines >>= λ n. this (codes "rounds") n.1 >>= λ rounds. by (number_between 0 7) rounds >>= λ r.
     ended (Grant b.0 winner.0 n.0 r.0) r.1
 
+-- The connect phase of a transaction.
 unfoldable pub connect_at : Words → Option Event
 connect_at ws =
     by board_of ws >>= λ b. by bus_event_of b.1 >>= λ event. this (codes "line") event.1 >>= λ line. by (number_between 0 4095) line >>= λ l.
     this (codes "to") l.1 >>= λ to. by outcome_of to >>= λ outcome. this (codes "answers") outcome.1 >>= λ more. answers_at more >>= λ answers.
     Some (Connect (record { master = b.0; event = event.0; line = l.0; outcome = outcome.0; answers = answers }))
 
+-- The data phase of a transaction.
 unfoldable pub data_at : Words → Option Event
 data_at ws =
     by board_of ws >>= λ b. by bus_event_of b.1 >>= λ event. this (codes "line") event.1 >>= λ line. by (number_between 0 4095) line >>= λ l.
@@ -242,7 +252,7 @@ data_at ws =
     this (codes "states") takers.1 >>= λ more. states_at b.0 more >>= λ states. carried_at states.1 >>= λ d.
     Some (DataPhase (record { master = b.0; event = event.0; line = l.0; source = source.0; takers = takers.0; states = states.0; done = d }))
 
--- An event.
+-- The event that these words spell.
 unfoldable pub event_at : Words → Option Event
 event_at [] = None
 event_at (w ∷ ws) =

@@ -1,4 +1,4 @@
-use Rattle.std.proofs.Common.{◌≡◌, ℕ, sym, ap, ◌∙◌, arith}
+use Rattle.std.proofs.Common.{sym, ap, ◌∙◌, arith}
 use Rattle.journal.specs.Boards.{answer_boards}
 use Rattle.trace_text.specs.Reading.{last_of}
 use Rattle.trace_text.proofs.Longer.{answer_above, answer_last}

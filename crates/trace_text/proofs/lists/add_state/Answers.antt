@@ -1,4 +1,4 @@
-use Rattle.std.proofs.Common.{◌≡◌, ℕ, drop, sym, ap, ◌∙◌, arith}
+use Rattle.std.proofs.Common.{drop, sym, ap, ◌∙◌, arith}
 use Rattle.journal.specs.Boards.{state_boards}
 use Rattle.trace_text.specs.Reading.{last_of}
 use Rattle.trace_text.proofs.Longer.{state_above, state_last}

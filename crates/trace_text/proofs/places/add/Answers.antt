@@ -1,4 +1,4 @@
-use Rattle.std.proofs.Common.{◌≡◌, ℕ, sym, ap, ◌∙◌, arith}
+use Rattle.std.proofs.Common.{◌≡◌, sym, ap, ◌∙◌, arith}
 use Rattle.trace_text.specs.Reading.{last_of}
 use Rattle.trace_text.proofs.Lasts.{above_last, last-push}
 use Rattle.trace_text.proofs.places.add.Goals as goal
