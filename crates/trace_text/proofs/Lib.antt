@@ -1,0 +1,15 @@
+pub mod Splits
+pub mod Lasts
+pub mod Longer
+pub mod Binds
+pub mod Numbers
+pub mod Bytes
+pub mod Spelled
+pub mod Grown
+pub mod Whole
+pub mod Events
+pub mod Again
+pub mod Ink
+pub mod Lines
+pub mod Lengths
+pub mod Behind
