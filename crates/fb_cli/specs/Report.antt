@@ -9,7 +9,7 @@ use Rattle.class_relation.specs.Tables.{Table, locals_of, answers_of}
 use Rattle.table_check.specs.declared.verdict.CellFault.{CellFault}
 use Rattle.table_check.specs.declared.verdict.CellFault.TheVariants.{NotPermitted, Missing}
 use Rattle.table_check.specs.Accepted.{faults}
-use Rattle.table_text.specs.Words.{state_word, local_event_word, bus_event_word}
+use Rattle.class_words.specs.Words.{state_word, local_event_word, bus_event_word}
 use Rattle.table_text.specs.Spelling.{local_words, snoop_words}
 
 -- The state and the event of a cell.

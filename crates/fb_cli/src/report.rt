@@ -11,11 +11,12 @@ ghost use Rattle.fb_cli.specs.Answers.{answer_output};
 use crate::answers::Answer;
 use crate::words::{number, word};
 use class_relation::{Cell, Table};
+use class_words::{bus_event_text, local_event_text, state_text};
 use fb_text::Text;
 use no_memory::NoMemory;
 use std::alloc::Global;
 use table_check::{CellFault, check};
-use table_text::{bus_event_text, local_event_text, state_text, write_answer, write_local_action};
+use table_text::{write_answer, write_local_action};
 
 /// Room for any line of a report.
 const LINE: usize = 80;

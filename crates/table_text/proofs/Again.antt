@@ -17,11 +17,12 @@ use Rattle.class_relation.specs.Tables.{local_cell, answer_cell}
 use Rattle.class_relation.specs.Tables.{Table, empty_table, with_local, with_answer}
 use Rattle.table_text.specs.declared.fault.TableKind.{TableKind}
 use Rattle.table_text.specs.declared.fault.TableKind.TheVariants.{UnknownWord, NoCell}
-use Rattle.table_text.specs.Words.{state_word, bus_event_word, outcome_word, outcome_of, state_of}
+use Rattle.class_words.specs.Words.{state_word, bus_event_word, outcome_word, outcome_of, state_of}
 use Rattle.table_text.specs.Reading.{Fault, line_ends, bar_or_end, local_action, local_rest, local_at, snoop_rest, snoop_at, alternatives, local_cell_at, snoop_cell_at, cell_line, table_line, table_lines, table_at}
 use Rattle.table_text.specs.Spelling.{bar, bus_words, local_words, snoop_words, alternative_words, CellLine, local, answer, cell_words, table_items, entered, all_entered, table_of}
 use Rattle.table_text.specs.Correct.{CanStand, AllStand}
-use Rattle.table_text.proofs.WordLaws.{state_again, local_event_again, bus_event_again, no_local_event}
+use Rattle.class_words.proofs.WordLaws.{state_again, local_event_again, bus_event_again}
+use Rattle.table_text.proofs.EventWords.{no_local_event}
 use Rattle.table_text.proofs.Alternatives.{tail, answer_of}
 use Rattle.table_text.proofs.TableLaws.{HasAllCells, rows_items, all_added, local_added, snoop_added, place_local, place_snoop, entered_whole, empty_whole}
 use Rattle.fb_text.proofs.LineItems.{items_line, cut_line}

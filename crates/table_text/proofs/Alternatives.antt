@@ -12,11 +12,11 @@ use Rattle.moesi_state.specs.declared.Outcome.TheVariants.{Fixed, OnHit}
 use Rattle.class_relation.specs.declared.LocalAction.{LocalAction}
 use Rattle.class_relation.specs.declared.SnoopAction.{SnoopAction}
 use Rattle.table_text.specs.declared.fault.TableKind.{TableKind}
-use Rattle.table_text.specs.Words.{state_word, bus_event_word, outcome_word, state_of, bus_event_of, outcome_of, on_hit, is_on_hit}
+use Rattle.class_words.specs.Words.{state_word, bus_event_word, outcome_word, state_of, bus_event_of, outcome_of, on_hit, is_on_hit}
 use Rattle.fb_text.specs.Places.{Words}
 use Rattle.table_text.specs.Reading.{◌>>=◌, spelled_by, word_by, bar_or_end, local_action, bus_event_at, local_rest, local_at, signal_at, snoop_rest, snoop_at, response}
 use Rattle.table_text.specs.Spelling.{bar, local_words, signal_words, snoop_words}
-use Rattle.table_text.proofs.WordLaws.{state_is, bus_event_is}
+use Rattle.class_words.proofs.WordLaws.{state_is, bus_event_is}
 
 -- the value of a step that did not fail
 pub bind_ok : {A B E : Type 0} (r : Result A E) (f : A → Result B E) (y : B) → (r >>= f) ≡ Ok y → (x : A) × (r ≡ Ok x) × (f x ≡ Ok y)

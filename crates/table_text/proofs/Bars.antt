@@ -14,7 +14,7 @@ use Rattle.moesi_state.specs.declared.Outcome.{Outcome}
 use Rattle.moesi_state.specs.declared.Outcome.TheVariants.{Fixed, OnHit}
 use Rattle.class_relation.specs.declared.LocalAction.{LocalAction}
 use Rattle.class_relation.specs.declared.SnoopAction.{SnoopAction}
-use Rattle.table_text.specs.Words.{state_word, local_event_word, bus_event_word, outcome_word}
+use Rattle.class_words.specs.Words.{state_word, local_event_word, bus_event_word, outcome_word}
 use Rattle.table_text.specs.Spelling.{bar, bars, bus_words, local_words, signal_words, snoop_words, alternative_words}
 
 pub bars_append : (a b : Words) → bars (a ++ b) ≡ bars a + bars b

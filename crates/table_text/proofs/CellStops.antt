@@ -12,14 +12,15 @@ use Rattle.bus_signals.specs.declared.BusEvent.TheVariants.{Rd, Rfo, Inv, Urd, B
 use Rattle.class_relation.specs.Tables.{Table, locals_of, answers_of, with_local, with_answer}
 use Rattle.table_text.specs.declared.fault.TableKind.{TableKind}
 use Rattle.table_text.specs.declared.fault.TableKind.TheVariants.{UnknownWord, TwiceCell, NoCell, Alternatives}
-use Rattle.table_text.specs.Words.{state_word, bus_event_word, outcome_of, state_of, local_event_of, bus_event_of, local_event_word}
+use Rattle.class_words.specs.Words.{state_word, bus_event_word, outcome_of, state_of, local_event_of, bus_event_of, local_event_word}
 use Rattle.fb_text.specs.Places.{Words}
 use Rattle.table_text.specs.Reading.{◌>>=◌, spelled_by, this_word, local_at, snoop_at, local_alternatives, snoop_alternatives, local_cell_at, snoop_cell_at, cell_line, event_at, any_cell}
 use Rattle.table_text.specs.Spelling.{bar, bars, HasLine, local_words, snoop_words, CellLine, local, answer, cell_words, HasAlternative}
 use Rattle.table_text.proofs.Bars.{state_no_bar, local_event_no_bar, bus_event_no_bar, local_bars, snoop_bars, FewBars, few_nil, few_cons}
 use Rattle.table_text.proofs.Marks.{Marks}
 use Rattle.fb_text.proofs.LineItems.{snoc_last}
-use Rattle.table_text.proofs.WordLaws.{state_is, local_event_is, bus_event_is, state_again, local_event_again, bus_event_again, no_local_event}
+use Rattle.class_words.proofs.WordLaws.{state_is, local_event_is, bus_event_is, state_again, local_event_again, bus_event_again}
+use Rattle.table_text.proofs.EventWords.{no_local_event}
 use Rattle.table_text.proofs.Alternatives.{local_takes, snoop_takes}
 use Rattle.table_text.proofs.TableLaws.{empty_is_nil}
 use Rattle.table_text.proofs.Again.{local_again, snoop_again}

@@ -13,7 +13,7 @@ use Rattle.moesi_state.specs.declared.State.TheVariants.{M, O, E, S, I}
 use Rattle.class_relation.specs.Tables.{Table, empty_table}
 use Rattle.table_text.specs.declared.fault.TableKind.{TableKind}
 use Rattle.table_text.specs.declared.fault.TableKind.TheVariants.{UnknownWord, NoEnd}
-use Rattle.table_text.specs.Words.{state_word, local_event_word, bus_event_word}
+use Rattle.class_words.specs.Words.{state_word, local_event_word, bus_event_word}
 use Rattle.table_text.specs.Reading.{◌>>=◌, Fault, on_line, line_ends, is_end, table_line, table_lines, table_at, cell_line}
 use Rattle.table_text.specs.Spelling.{bars, CellLine, local, answer, cell_words, local_words, snoop_words, HasLine, HasAlternative, BreaksCell, EndsWithEquals, UnfitTable, table_rows, table_grammar, entered}
 use Rattle.table_text.specs.Correct.{CanStand}

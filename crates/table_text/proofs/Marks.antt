@@ -17,9 +17,10 @@ use Rattle.moesi_state.specs.States.{state_number}
 use Rattle.class_relation.specs.Tables.{local_number, local_cell, answer_cell}
 use Rattle.bus_signals.specs.Signals.{event_number}
 use Rattle.class_relation.specs.Tables.{Table, empty_table, locals_of, answers_of}
-use Rattle.table_text.specs.Words.{state_word, local_event_word, bus_event_word, state_of, local_event_of, bus_event_of}
+use Rattle.class_words.specs.Words.{state_word, local_event_word, bus_event_word, state_of, local_event_of, bus_event_of}
 use Rattle.table_text.specs.Spelling.{CellLine, local, answer, cell_words, HasAlternative, HasLine, entered}
-use Rattle.table_text.proofs.WordLaws.{state_again, local_event_again, bus_event_again, no_local_event}
+use Rattle.class_words.proofs.WordLaws.{state_again, local_event_again, bus_event_again}
+use Rattle.table_text.proofs.EventWords.{no_local_event}
 use Rattle.table_text.proofs.TableLaws.{HasAllCells, place_local, place_snoop}
 
 -- ---- lines that name a cell

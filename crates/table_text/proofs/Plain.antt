@@ -16,7 +16,7 @@ use Rattle.moesi_state.specs.declared.Outcome.TheVariants.{Fixed, OnHit}
 use Rattle.class_relation.specs.declared.LocalAction.{LocalAction}
 use Rattle.class_relation.specs.declared.SnoopAction.{SnoopAction}
 use Rattle.class_relation.specs.Names.{is_lower_case, is_digit, is_name_byte, is_name}
-use Rattle.table_text.specs.Words.{state_word, local_event_word, bus_event_word, outcome_word}
+use Rattle.class_words.specs.Words.{state_word, local_event_word, bus_event_word, outcome_word}
 use Rattle.table_text.specs.Spelling.{bar, bus_words, local_words, signal_words, snoop_words, alternative_words, CellLine, local, answer, cell_words}
 
 abbrev AreWords : Words → Type 0

@@ -7,12 +7,13 @@ use Rattle.class_relation.specs.declared.SnoopAction.{SnoopAction}
 use Rattle.class_relation.specs.Tables.{Table, locals_of, answers_of, with_local, with_answer}
 use Rattle.table_text.specs.declared.fault.TableKind.{TableKind}
 use Rattle.table_text.specs.declared.fault.TableKind.TheVariants.{UnknownWord, TwiceCell, NoCell, Alternatives, NoEnd}
-use Rattle.table_text.specs.Words.{state_word, outcome_word, outcome_of, state_of}
+use Rattle.class_words.specs.Words.{state_word, outcome_word, outcome_of, state_of}
 use Rattle.fb_text.specs.Places.{Words}
 use Rattle.table_text.specs.Reading.{local_at, snoop_at, alternatives, no_room, local_alternatives, snoop_alternatives, local_cell_at, snoop_cell_at, cell_line}
 use Rattle.table_text.specs.Spelling.{bus_words, local_words, snoop_words, alternative_words, CellLine, local, answer, cell_words, HasAlternative}
 use Rattle.fb_text.proofs.LineItems.{from}
-use Rattle.table_text.proofs.WordLaws.{state_again, local_event_again, bus_event_again, no_local_event}
+use Rattle.class_words.proofs.WordLaws.{state_again, local_event_again, bus_event_again}
+use Rattle.table_text.proofs.EventWords.{no_local_event}
 use Rattle.table_text.proofs.Alternatives.{tail}
 use Rattle.table_text.proofs.Again.{left, outcome_again, local_again, snoop_again}
 

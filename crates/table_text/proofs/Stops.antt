@@ -12,12 +12,12 @@ use Rattle.class_relation.specs.declared.LocalAction.{LocalAction}
 use Rattle.class_relation.specs.declared.SnoopAction.{SnoopAction}
 use Rattle.table_text.specs.declared.fault.TableKind.{TableKind}
 use Rattle.table_text.specs.declared.fault.TableKind.TheVariants.{UnknownWord}
-use Rattle.table_text.specs.Words.{state_word, outcome_word, outcome_of, state_of, bus_event_of}
+use Rattle.class_words.specs.Words.{state_word, outcome_word, outcome_of, state_of, bus_event_of}
 use Rattle.fb_text.specs.Places.{Words}
 use Rattle.table_text.specs.Reading.{◌>>=◌, spelled_by, bar_or_end, local_action, bus_event_at, local_rest, local_at, signal_at, snoop_rest, snoop_at}
 use Rattle.table_text.specs.Spelling.{bar, local_words, signal_words, snoop_words}
 use Rattle.fb_text.proofs.LineItems.{from}
-use Rattle.table_text.proofs.WordLaws.{state_is, bus_event_is}
+use Rattle.class_words.proofs.WordLaws.{state_is, bus_event_is}
 use Rattle.table_text.proofs.Alternatives.{outcome_is, answer_of, signal_takes}
 use Rattle.table_text.proofs.Again.{outcome_again}
 

@@ -21,11 +21,11 @@ use Rattle.bus_signals.specs.Signals.{event_number}
 use Rattle.class_relation.specs.Tables.{Table, empty_table, locals_of, answers_of, with_local, with_answer}
 use Rattle.table_text.specs.declared.fault.TableKind.{TableKind}
 use Rattle.table_text.specs.declared.fault.TableKind.TheVariants.{UnknownWord, TwiceCell, NoCell, Alternatives}
-use Rattle.table_text.specs.Words.{state_word, local_event_word, bus_event_word, state_of, local_event_of, bus_event_of, outcome_of}
+use Rattle.class_words.specs.Words.{state_word, local_event_word, bus_event_word, state_of, local_event_of, bus_event_of, outcome_of}
 use Rattle.table_text.specs.Reading.{◌>>=◌, on_line, line_ends, is_end, table_line, table_lines, table_at, cell_line, event_at, any_cell, local_cell_at, snoop_cell_at, this_word, word_by, local_at, snoop_at, local_alternatives, snoop_alternatives, alternatives, seventeenth}
 use Rattle.table_text.specs.Spelling.{bar, local_words, snoop_words, alternative_words, CellLine, local, answer, cell_words, HasAlternative, entered, all_entered}
 use Rattle.table_text.specs.Correct.{IsTable, CanStand, AllStand}
-use Rattle.table_text.proofs.WordLaws.{state_is, local_event_is, bus_event_is}
+use Rattle.class_words.proofs.WordLaws.{state_is, local_event_is, bus_event_is}
 use Rattle.table_text.proofs.Alternatives.{bind_ok, ok_is, wanted, is_word, tail, word_takes, local_takes, snoop_takes}
 
 -- the alternatives added one after another

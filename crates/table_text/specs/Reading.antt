@@ -16,7 +16,7 @@ use Rattle.table_text.specs.declared.fault.TableKind.{TableKind}
 use Rattle.table_text.specs.declared.fault.TableKind.TheVariants.{UnknownWord, TwiceCell, NoCell, Alternatives, NoEnd}
 use Rattle.table_text.specs.declared.fault.TableFault.{TableFault}
 use Rattle.table_text.specs.declared.fault.TableFault.TheVariants as faults
-use Rattle.table_text.specs.Words.{state_of, local_event_of, bus_event_of, outcome_of}
+use Rattle.class_words.specs.Words.{state_of, local_event_of, bus_event_of, outcome_of}
 
 infixl 10 ◌>>=◌
 abbrev pub ◌>>=◌ : {A B E : Type 0} → Result A E → (A → Result B E) → Result B E

@@ -12,7 +12,7 @@ use Rattle.class_relation.specs.Tables.{local_cell, answer_cell}
 use Rattle.class_relation.specs.Tables.{Table, empty_table}
 use Rattle.table_text.specs.declared.fault.TableKind.{TableKind}
 use Rattle.table_text.specs.declared.fault.TableKind.TheVariants.{UnknownWord, TwiceCell, NoCell, Alternatives, NoEnd}
-use Rattle.table_text.specs.Words.{state_word, local_event_word, bus_event_word, outcome_word}
+use Rattle.class_words.specs.Words.{state_word, local_event_word, bus_event_word, outcome_word}
 
 -- ---- what is written
 

@@ -1,7 +1,7 @@
 //! Reading a table, word after word.
 
 ghost use Rattle.std.specs.Prelude.{◌≡◌, ℕ, [], ◌∷◌, true, codes, ◌++◌, List, IfOk, IfErr, OnOk};
-ghost use Rattle.table_text.specs.Words.{outcome_of, state_of};
+ghost use Rattle.class_words.specs.Words.{outcome_of, state_of};
 ghost use Rattle.table_text.specs.Reading.{Gives, GivesBar, FailsAs, StaysOnLine, IsLast, onto, signal_at, local_at, snoop_at, word_by, this_word, no_room, local_alternatives, snoop_alternatives, local_cell_at, snoop_cell_at, cell_line, line_ends, table_line, table_at, GivesTable};
 ghost use Rattle.table_text.specs.Writing.{written_table, after_head};
 ghost use Rattle.class_relation.specs.Tables.{Table, IsWhole, empty_table, locals_of, answers_of};
@@ -11,9 +11,9 @@ ghost use Rattle.table_text.specs.Spelling.{CellLine, table_items, table_of};
 ghost use Rattle.table_text.specs.Correct.{IsTable, AllStand, IsReadAs, IsFirstFault};
 
 use crate::fault::{TableFault, TableKind};
-use crate::words::{bus_event_of, is, local_event_of, outcome_of, state_of};
 use bus_signals::{BusEvent, LocalEvent, Response};
 use class_relation::{LocalAction, Name, PushFault, SnoopAction, Table};
+use class_words::{bus_event_of, is, local_event_of, outcome_of, state_of};
 use fb_text::Scan;
 use moesi_state::{Outcome, State};
 use std::alloc::Global;

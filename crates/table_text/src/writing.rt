@@ -3,59 +3,15 @@
 ghost use Rattle.std.specs.Prelude.{◌≡◌, ◌<◌, ◌≤◌, ◌+◌, ◌*◌, ◌++◌, ◌∷◌, [], length, codes, OnOk, OnErr};
 ghost use Rattle.fb_text.specs.Written.{after_words, line_bytes, lines_bytes};
 ghost use Rattle.class_relation.specs.Tables.{IsWhole, locals_of, answers_of};
-ghost use Rattle.table_text.specs.Words.{state_word, local_event_word, bus_event_word, outcome_word};
+ghost use Rattle.class_words.specs.Words.{state_word, local_event_word, bus_event_word, outcome_word};
 ghost use Rattle.table_text.specs.Spelling.{local_words, snoop_words, signal_words, alternative_words, cell_words, local, answer};
 ghost use Rattle.table_text.specs.Writing.{local_line, snoop_line, state_lines, cells_of, cells_bytes, written_table};
 
 use bus_signals::{BusEvent, LocalEvent};
 use class_relation::{LocalAction, SnoopAction, Table};
+use class_words::{bus_event_text, local_event_text, state_text};
 use fb_text::{NoMemory, Text};
 use moesi_state::{Outcome, State};
-
-/// The word of a state.
-pub fn state_text(state: State) -> &'static str
-    ensures text { result.now ≡ state_word state }
-    ensures short { length result.now ≡ 1 }
-{
-    match state {
-        State::M => "M",
-        State::O => "O",
-        State::E => "E",
-        State::S => "S",
-        State::I => "I",
-    }
-}
-
-/// The word of a local event.
-pub fn local_event_text(event: LocalEvent) -> &'static str
-    ensures text { result.now ≡ local_event_word event }
-    ensures short { length result.now ≤ 5 }
-{
-    match event {
-        LocalEvent::Read => "read",
-        LocalEvent::Write => "write",
-        LocalEvent::Pass => "pass",
-        LocalEvent::Flush => "flush",
-    }
-}
-
-/// The word of a bus event.
-pub fn bus_event_text(event: BusEvent) -> &'static str
-    ensures text { result.now ≡ bus_event_word event }
-    ensures short { length result.now ≤ 3 }
-{
-    match event {
-        BusEvent::Rd => "rd",
-        BusEvent::Rfo => "rfo",
-        BusEvent::Inv => "inv",
-        BusEvent::Urd => "urd",
-        BusEvent::Bwr => "bwr",
-        BusEvent::Uwr => "uwr",
-        BusEvent::Ubw => "ubw",
-        BusEvent::Pas => "pas",
-        BusEvent::Flu => "flu",
-    }
-}
 
 /// A word behind a space.
 fn word(text: &mut Text, word: &str)

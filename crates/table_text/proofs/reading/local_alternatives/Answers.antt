@@ -2,7 +2,7 @@ use Rattle.std.proofs.Common.{Ok, sym, ◌∙◌, ap, arith, rules, length, subs
 use Rattle.std.proofs.lemmas.Result.{err_from_is_err_and}
 use Rattle.std.proofs.lemmas.List.{length_push}
 use Rattle.class_relation.specs.Tables.{with_local, locals_of}
-use Rattle.table_text.specs.Words.{outcome_of}
+use Rattle.class_words.specs.Words.{outcome_of}
 use Rattle.table_text.specs.Reading.{Fails, local_at}
 use Rattle.table_text.proofs.Turns.{one_more, last, fails, full}
 use Rattle.table_text.proofs.reading.local_alternatives.Goals as goal

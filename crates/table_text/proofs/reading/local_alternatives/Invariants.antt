@@ -1,6 +1,6 @@
 use Rattle.std.proofs.Common.{◌≡◌, ◌-◌, length}
 use Rattle.class_relation.specs.Tables.{locals_of, with_local}
-use Rattle.table_text.specs.Words.{outcome_of}
+use Rattle.class_words.specs.Words.{outcome_of}
 use Rattle.table_text.specs.Reading.{StaysOnLine, alternatives, local_at, local_alternatives}
 use Rattle.table_text.proofs.reading.local_alternatives.Given as goal
 

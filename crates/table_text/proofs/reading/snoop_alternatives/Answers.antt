@@ -2,7 +2,7 @@ use Rattle.std.proofs.Common.{Ok, sym, ◌∙◌, ap, arith, rules, length, subs
 use Rattle.std.proofs.lemmas.Result.{err_from_is_err_and}
 use Rattle.std.proofs.lemmas.List.{length_push}
 use Rattle.class_relation.specs.Tables.{with_answer, answers_of}
-use Rattle.table_text.specs.Words.{state_of}
+use Rattle.class_words.specs.Words.{state_of}
 use Rattle.table_text.specs.Reading.{Fails, snoop_at}
 use Rattle.table_text.proofs.Turns.{one_more, last, fails, full}
 use Rattle.table_text.proofs.reading.snoop_alternatives.Goals as goal

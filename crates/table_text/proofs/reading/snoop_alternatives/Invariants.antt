@@ -1,6 +1,6 @@
 use Rattle.std.proofs.Common.{◌≡◌, ◌-◌, length}
 use Rattle.class_relation.specs.Tables.{answers_of, with_answer}
-use Rattle.table_text.specs.Words.{state_of}
+use Rattle.class_words.specs.Words.{state_of}
 use Rattle.table_text.specs.Reading.{StaysOnLine, alternatives, snoop_at, snoop_alternatives}
 use Rattle.table_text.proofs.reading.snoop_alternatives.Given as goal
 

@@ -3,7 +3,7 @@ use Rattle.std.specs.Prelude.{codes}
 use Rattle.std.proofs.lemmas.Bool.{eqb-true, eqb-false}
 use Rattle.std.proofs.lemmas.List.{append-nil}
 use Rattle.fb_text.specs.Written.{after_words}
-use Rattle.table_text.specs.Words.{state_word, local_event_word}
+use Rattle.class_words.specs.Words.{state_word, local_event_word}
 use Rattle.table_text.specs.Spelling.{local_words, alternative_words}
 use Rattle.class_relation.specs.Tables.{locals_of}
 use Rattle.class_relation.specs.declared.LocalAction.{LocalAction}
