@@ -1,6 +1,6 @@
 -- The words of states, outcomes and events, both ways.
-use Rattle.std.specs.Prelude.{◌≡◌, ℕ, Bool, ◌&&◌, nat_eq, List, [], ◌∷◌, ◌++◌, length, take, drop, Option, Some, None, codes, if◌then◌else◌}
-use Rattle.std.specs.Option.{option_map, option_and_then}
+use Rattle.std.specs.Prelude.{◌≡◌, ℕ, Bool, ◌&&◌, nat_eq, List, ◌++◌, length, take, drop, Option, Some, None, codes, if◌then◌else◌}
+use Rattle.std.specs.Option.{option_map}
 use Rattle.std.specs.Str.{bytes_eq}
 use Rattle.moesi_state.specs.declared.State.{State}
 use Rattle.moesi_state.specs.declared.State.TheVariants.{M, O, E, S, I}

@@ -2,6 +2,8 @@
 #![tactic(auto)]
 
 mod reading;
+#[cfg(test)]
+mod tests;
 mod writing;
 
 pub use reading::{bus_event_of, is, local_event_of, outcome_of, state_of};
