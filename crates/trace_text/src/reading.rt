@@ -32,90 +32,70 @@ fn next_number(line: &mut Pieces, least: u64, most: u64) -> Option<u64>
     ensures number { Gives (λ n. (n, line.new)) result (by (number_between least most) line.old) }
     ensures within { IfSome result (λ n. n ≤ most) }
 {
-    let Some(word) = line.take() else {
-        return None;
-    };
+    let word = line.take()?;
     number(word, least, most)
 }
 
 fn next_board(line: &mut Pieces) -> Option<BoardNo>
     ensures { Gives (λ b. (b, line.new)) result (by board_of line.old) }
 {
-    let Some(word) = line.take() else {
-        return None;
-    };
+    let word = line.take()?;
     board(word)
 }
 
 fn next_line_number(line: &mut Pieces) -> Option<LineNo>
     ensures { Gives (λ l. (l, line.new)) result (by (number_between 0 4095) line.old) }
 {
-    let Some(n) = next_number(line, 0, 4095) else {
-        return None;
-    };
+    let n = next_number(line, 0, 4095)?;
     Some(LineNo(n as u32))
 }
 
 fn next_address(line: &mut Pieces) -> Option<Addr>
     ensures { Gives (λ a. (a, line.new)) result (by (number_between 0 16383) line.old) }
 {
-    let Some(n) = next_number(line, 0, 16383) else {
-        return None;
-    };
+    let n = next_number(line, 0, 16383)?;
     Some(Addr(n as u32))
 }
 
 fn next_value(line: &mut Pieces) -> Option<u32>
     ensures { Gives (λ v. (v, line.new)) result (by (number_between 0 4294967295) line.old) }
 {
-    let Some(n) = next_number(line, 0, 4294967295) else {
-        return None;
-    };
+    let n = next_number(line, 0, 4294967295)?;
     Some(n as u32)
 }
 
 fn next_state(line: &mut Pieces) -> Option<State>
     ensures { Gives (λ s. (s, line.new)) result (by state_of line.old) }
 {
-    let Some(word) = line.take() else {
-        return None;
-    };
+    let word = line.take()?;
     state_of(word)
 }
 
 fn next_bus_event(line: &mut Pieces) -> Option<BusEvent>
     ensures { Gives (λ e. (e, line.new)) result (by bus_event_of line.old) }
 {
-    let Some(word) = line.take() else {
-        return None;
-    };
+    let word = line.take()?;
     bus_event_of(word)
 }
 
 fn next_outcome(line: &mut Pieces) -> Option<Outcome>
     ensures { Gives (λ o. (o, line.new)) result (by outcome_of line.old) }
 {
-    let Some(word) = line.take() else {
-        return None;
-    };
+    let word = line.take()?;
     outcome_of(word)
 }
 
 fn next_source(line: &mut Pieces) -> Option<Source>
     ensures { Gives (λ s. (s, line.new)) result (by source_of line.old) }
 {
-    let Some(word) = line.take() else {
-        return None;
-    };
+    let word = line.take()?;
     source(word)
 }
 
 fn next_takers(line: &mut Pieces) -> Option<Takers>
     ensures { Gives (λ t. (t, line.new)) result (by takers_of line.old) }
 {
-    let Some(word) = line.take() else {
-        return None;
-    };
+    let word = line.take()?;
     takers(word)
 }
 
@@ -130,9 +110,7 @@ fn at_end<T: Drop>(line: &Pieces, value: T) -> Option<T>
 fn done_as(line: &mut Pieces, kind: LocalEvent) -> Option<Done>
     ensures { result ≡ done_as kind line.old }
 {
-    let Some(addr) = next_address(line) else {
-        return None;
-    };
+    let addr = next_address(line)?;
     match kind {
         LocalEvent::Read => read_done(line, addr),
         LocalEvent::Write => write_done(line, addr),
@@ -154,12 +132,8 @@ fn without_reply(access: Access) -> Done
 fn read_done(line: &mut Pieces, addr: Addr) -> Option<Done>
     ensures { result ≡ read_as addr line.old }
 {
-    let Some(()) = this(line, "=") else {
-        return None;
-    };
-    let Some(value) = next_value(line) else {
-        return None;
-    };
+    this(line, "=")?;
+    let value = next_value(line)?;
     at_end(
         line,
         Done {
@@ -173,9 +147,7 @@ fn read_done(line: &mut Pieces, addr: Addr) -> Option<Done>
 fn write_done(line: &mut Pieces, addr: Addr) -> Option<Done>
     ensures { result ≡ written_as addr line.old }
 {
-    let Some(value) = next_value(line) else {
-        return None;
-    };
+    let value = next_value(line)?;
     at_end(line, without_reply(Access::Write(addr, value)))
 }
 
@@ -184,9 +156,7 @@ fn write_done(line: &mut Pieces, addr: Addr) -> Option<Done>
 fn done_from(line: &mut Pieces, first: &[u8]) -> Option<Done>
     ensures { result ≡ done_at (first.now ∷ line.old) }
 {
-    let Some(kind) = local_event_of(first) else {
-        return None;
-    };
+    let kind = local_event_of(first)?;
     done_as(line, kind)
 }
 
@@ -195,9 +165,7 @@ fn done_from(line: &mut Pieces, first: &[u8]) -> Option<Done>
 fn done(line: &mut Pieces) -> Option<Done>
     ensures { result ≡ done_at line.old }
 {
-    let Some(first) = line.take() else {
-        return None;
-    };
+    let first = line.take()?;
     done_from(line, first)
 }
 
@@ -206,15 +174,11 @@ fn done(line: &mut Pieces) -> Option<Done>
 fn carried(line: &mut Pieces) -> Option<Option<Done>>
     ensures { result ≡ carried_at line.old }
 {
-    let Some(first) = line.take() else {
-        return None;
-    };
+    let first = line.take()?;
     if is(first, "evict") {
         return at_end(line, None);
     }
-    let Some(done) = done_from(line, first) else {
-        return None;
-    };
+    let done = done_from(line, first)?;
     Some(Some(done))
 }
 
@@ -223,24 +187,12 @@ fn carried(line: &mut Pieces) -> Option<Option<Done>>
 fn local(line: &mut Pieces) -> Option<Event>
     ensures { result ≡ local_at line.old }
 {
-    let Some(board) = next_board(line) else {
-        return None;
-    };
-    let Some(before) = next_state(line) else {
-        return None;
-    };
-    let Some(()) = this(line, "to") else {
-        return None;
-    };
-    let Some(after) = next_state(line) else {
-        return None;
-    };
-    let Some(()) = this(line, "done") else {
-        return None;
-    };
-    let Some(done) = done(line) else {
-        return None;
-    };
+    let board = next_board(line)?;
+    let before = next_state(line)?;
+    this(line, "to")?;
+    let after = next_state(line)?;
+    this(line, "done")?;
+    let done = done(line)?;
     Some(Event::Local {
         board,
         before,
@@ -254,21 +206,11 @@ fn local(line: &mut Pieces) -> Option<Event>
 fn dropped(line: &mut Pieces) -> Option<Event>
     ensures { result ≡ drop_at line.old }
 {
-    let Some(board) = next_board(line) else {
-        return None;
-    };
-    let Some(()) = this(line, "line") else {
-        return None;
-    };
-    let Some(number) = next_line_number(line) else {
-        return None;
-    };
-    let Some(()) = this(line, "from") else {
-        return None;
-    };
-    let Some(before) = next_state(line) else {
-        return None;
-    };
+    let board = next_board(line)?;
+    this(line, "line")?;
+    let number = next_line_number(line)?;
+    this(line, "from")?;
+    let before = next_state(line)?;
     at_end(
         line,
         Event::Drop {
@@ -284,9 +226,7 @@ fn dropped(line: &mut Pieces) -> Option<Event>
 fn raise(line: &mut Pieces) -> Option<Event>
     ensures { result ≡ raise_at line.old }
 {
-    let Some(board) = next_board(line) else {
-        return None;
-    };
+    let board = next_board(line)?;
     at_end(line, Event::Raise { board })
 }
 
@@ -295,27 +235,13 @@ fn raise(line: &mut Pieces) -> Option<Event>
 fn grant(line: &mut Pieces) -> Option<Event>
     ensures { result ≡ grant_at line.old }
 {
-    let Some(by) = next_board(line) else {
-        return None;
-    };
-    let Some(()) = this(line, "to") else {
-        return None;
-    };
-    let Some(winner) = next_board(line) else {
-        return None;
-    };
-    let Some(()) = this(line, "lines") else {
-        return None;
-    };
-    let Some(lines) = next_number(line, 1, 255) else {
-        return None;
-    };
-    let Some(()) = this(line, "rounds") else {
-        return None;
-    };
-    let Some(rounds) = next_number(line, 0, 7) else {
-        return None;
-    };
+    let by = next_board(line)?;
+    this(line, "to")?;
+    let winner = next_board(line)?;
+    this(line, "lines")?;
+    let lines = next_number(line, 1, 255)?;
+    this(line, "rounds")?;
+    let rounds = next_number(line, 0, 7)?;
     at_end(
         line,
         Event::Grant {
@@ -332,30 +258,14 @@ fn grant(line: &mut Pieces) -> Option<Event>
 fn connected(line: &mut Pieces) -> Option<Event>
     ensures { result ≡ connect_at line.old }
 {
-    let Some(master) = next_board(line) else {
-        return None;
-    };
-    let Some(event) = next_bus_event(line) else {
-        return None;
-    };
-    let Some(()) = this(line, "line") else {
-        return None;
-    };
-    let Some(number) = next_line_number(line) else {
-        return None;
-    };
-    let Some(()) = this(line, "to") else {
-        return None;
-    };
-    let Some(outcome) = next_outcome(line) else {
-        return None;
-    };
-    let Some(()) = this(line, "answers") else {
-        return None;
-    };
-    let Some(answers) = answers(line) else {
-        return None;
-    };
+    let master = next_board(line)?;
+    let event = next_bus_event(line)?;
+    this(line, "line")?;
+    let number = next_line_number(line)?;
+    this(line, "to")?;
+    let outcome = next_outcome(line)?;
+    this(line, "answers")?;
+    let answers = answers(line)?;
     Some(Event::Connect(Connected {
         master,
         event,
@@ -370,39 +280,17 @@ fn connected(line: &mut Pieces) -> Option<Event>
 fn data(line: &mut Pieces) -> Option<Event>
     ensures { result ≡ data_at line.old }
 {
-    let Some(master) = next_board(line) else {
-        return None;
-    };
-    let Some(event) = next_bus_event(line) else {
-        return None;
-    };
-    let Some(()) = this(line, "line") else {
-        return None;
-    };
-    let Some(number) = next_line_number(line) else {
-        return None;
-    };
-    let Some(()) = this(line, "from") else {
-        return None;
-    };
-    let Some(source) = next_source(line) else {
-        return None;
-    };
-    let Some(()) = this(line, "into") else {
-        return None;
-    };
-    let Some(takers) = next_takers(line) else {
-        return None;
-    };
-    let Some(()) = this(line, "states") else {
-        return None;
-    };
-    let Some(states) = states(line, master) else {
-        return None;
-    };
-    let Some(done) = carried(line) else {
-        return None;
-    };
+    let master = next_board(line)?;
+    let event = next_bus_event(line)?;
+    this(line, "line")?;
+    let number = next_line_number(line)?;
+    this(line, "from")?;
+    let source = next_source(line)?;
+    this(line, "into")?;
+    let takers = next_takers(line)?;
+    this(line, "states")?;
+    let states = states(line, master)?;
+    let done = carried(line)?;
     Some(Event::DataPhase(Carried {
         master,
         event,
@@ -419,9 +307,7 @@ fn data(line: &mut Pieces) -> Option<Event>
 fn event(line: &mut Pieces) -> Option<Event>
     ensures { result ≡ event_at line.old }
 {
-    let Some(first) = line.take() else {
-        return None;
-    };
+    let first = line.take()?;
     if is(first, "local") {
         local(line)
     } else if is(first, "drop") {

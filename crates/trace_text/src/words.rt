@@ -29,9 +29,7 @@ pub fn number(word: &[u8], least: u64, most: u64) -> Option<u64>
 pub fn board(word: &[u8]) -> Option<BoardNo>
     ensures { result ≡ board_of word.now }
 {
-    let Some(n) = number(word, 1, 16) else {
-        return None;
-    };
+    let n = number(word, 1, 16)?;
     Some(BoardNo(n as u8))
 }
 
@@ -40,12 +38,8 @@ fn sides(word: &[u8]) -> Option<(&[u8], &[u8])>
     ensures { MatchOption result (sides_of word.now ≡ None) (λ s. sides_of word.now ≡ Some (s.0.now, s.1.now)) }
 {
     let mut parts = Pieces::over(word, b'=');
-    let Some(left) = parts.take() else {
-        return None;
-    };
-    let Some(right) = parts.take() else {
-        return None;
-    };
+    let left = parts.take()?;
+    let right = parts.take()?;
     if !parts.is_at_end() {
         return None;
     }
@@ -60,12 +54,8 @@ pub fn placed(word: &[u8]) -> Option<(BoardNo, State)>
     let Some((left, right)) = sides(word) else {
         return None;
     };
-    let Some(board) = board(left) else {
-        return None;
-    };
-    let Some(state) = state_of(right) else {
-        return None;
-    };
+    let board = board(left)?;
+    let state = state_of(right)?;
     Some((board, state))
 }
 
@@ -118,12 +108,8 @@ fn action(text: &[u8]) -> Option<SnoopAction>
     ensures { result ≡ action_of text.now }
 {
     let (letter, signals) = first_byte(text);
-    let Some(result) = state_of(letter) else {
-        return None;
-    };
-    let Some(response) = response(signals) else {
-        return None;
-    };
+    let result = state_of(letter)?;
+    let response = response(signals)?;
     Some(SnoopAction { result, response })
 }
 
@@ -135,12 +121,8 @@ pub fn answer(word: &[u8]) -> Option<Answer>
     let Some((left, right)) = sides(word) else {
         return None;
     };
-    let Some(board) = board(left) else {
-        return None;
-    };
-    let Some(action) = action(right) else {
-        return None;
-    };
+    let board = board(left)?;
+    let action = action(right)?;
     Some(Answer { board, action })
 }
 
@@ -155,8 +137,6 @@ pub fn source(word: &[u8]) -> Option<Source>
     if is(word, "memory") {
         return Some(Source::Memory);
     }
-    let Some(board) = board(word) else {
-        return None;
-    };
+    let board = board(word)?;
     Some(Source::Board(board))
 }
