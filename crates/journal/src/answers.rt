@@ -80,4 +80,14 @@ impl Answers {
     {
         &self.items[..self.len]
     }
+
+    /// The same answers again.
+    pub fn copy(&self) -> Answers
+        ensures { result ≡ self.now }
+    {
+        Answers {
+            items: self.items,
+            len: self.len,
+        }
+    }
 }
