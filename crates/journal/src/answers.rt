@@ -85,9 +85,13 @@ impl Answers {
     pub fn copy(&self) -> Answers
         ensures { result ≡ self.now }
     {
-        Answers {
-            items: self.items,
-            len: self.len,
+        let mut answers = Answers::new();
+        for answer in self.items() {
+            answers.push(Answer {
+                board: answer.board,
+                action: answer.action,
+            });
         }
+        answers
     }
 }
