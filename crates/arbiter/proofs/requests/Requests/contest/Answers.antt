@@ -3,7 +3,7 @@ use Rattle.settling.specs.Settling.{highest}
 use Rattle.arbiter.specs.Contests.{IsContest}
 use Rattle.arbiter.specs.Raised.{raised_numbers, winner_from}
 use Rattle.arbiter.proofs.Requesting.{raised_contest, some_compete, highest_wins, won}
-use Rattle.arbiter.proofs.requests.Requests.grant.Goals as goal
+use Rattle.arbiter.proofs.requests.Requests.contest.Goals as goal
 
 pub settled-settled-requires-clause-contest : goal.settled-settled-requires-clause-contest
 settled-settled-requires-clause-contest c =

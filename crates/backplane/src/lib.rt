@@ -1,0 +1,16 @@
+//! The machine: the boards of a setup take turns on one bus, and a journal keeps what happens.
+#![tactic(auto)]
+
+mod assembling;
+mod histories;
+mod machine;
+mod moved;
+mod parts;
+mod phase;
+mod plan;
+mod setup;
+
+pub use assembling::{AssembleFault, assemble};
+pub use machine::Machine;
+pub use moved::{Moved, Why};
+pub use setup::Setup;
