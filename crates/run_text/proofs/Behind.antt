@@ -46,3 +46,13 @@ flat_map-at f xs i x less is =
     ap (flat_map f) (sym (take-append-drop i xs))
     ∙ flat_map-append f (take i xs) (drop i xs)
     ∙ ap (λ (t : List ℕ). flat_map f (take i xs) ++ t) (ap (flat_map f) (drop-cons xs i x less) ∙ ap (λ y. f y ++ flat_map f (drop (suc i) xs)) (sym is))
+
+-- A text that was taken whole behind another.
+pub whole-behind : {T E : Type 0} (f g h : ℕ) (a b c : Option (List ℕ)) (first second whole : List ℕ) (x : T)
+    → whole ≡ first ++ second → Prints f g a b first → Printed {T = T} {E = E} g h b c second (Ok x) → Prints f h a c whole
+whole-behind f g h a b c first second whole x is before now =
+    let later = now.cause.later in
+    record {
+      taken = subst (λ (t : List ℕ). Appends a c t) (sym is) (Appends-trans a b c first second before.taken now.whole);
+      later = omega (arith, later, before.later);
+    }

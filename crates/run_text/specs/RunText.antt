@@ -19,13 +19,21 @@ board_replies history board = flat_map entry_line (entries_of board history)
 abbrev pub replies_text : List Entry → List ℕ → List ℕ
 replies_text history boards = flat_map (board_replies history) boards
 
+-- A line of memory.
+abbrev pub memory_of : Configuration → ℕ → List ℕ
+memory_of c line = memory_text line (memory_line c.memory line)
+
 -- The lines of memory, in order.
 abbrev pub all_memory : Configuration → ℕ → List ℕ
-all_memory c lines = flat_map (λ line. memory_text line (memory_line c.memory line)) (numbers_below lines)
+all_memory c lines = flat_map (memory_of c) (numbers_below lines)
+
+-- The copy that a board has of a line, if it has one.
+abbrev pub copy_of : Configuration → ℕ → ℕ → List ℕ
+copy_of c board line = row_text board line (row_at c.rows board line)
 
 -- The copies of a board, in order of line.
 abbrev pub board_copies : Configuration → ℕ → ℕ → List ℕ
-board_copies c lines board = flat_map (λ line. row_text board line (row_at c.rows board line)) (numbers_below lines)
+board_copies c lines board = flat_map (copy_of c board) (numbers_below lines)
 
 -- The copies of the boards, board by board.
 abbrev pub all_copies : Configuration → ℕ → List ℕ → List ℕ

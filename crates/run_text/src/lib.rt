@@ -12,8 +12,10 @@
 
 mod lines;
 mod printing;
+mod run;
 #[cfg(test)]
 mod tests;
 
 pub use lines::{write_copy, write_memory, write_reply};
 pub use printing::{print_events, print_replies};
+pub use run::{print_ending, print_run};

@@ -18,7 +18,7 @@ use run_lines::is_typed;
 use trace_text::write_event;
 
 /// Prints a line and empties it.
-fn print_line<K: Sink>(line: &mut Text, sink: &mut K) -> Result<(), PutFailed>
+pub(crate) fn print_line<K: Sink>(line: &mut Text, sink: &mut K) -> Result<(), PutFailed>
     ensures printed { Printed (K.faults sink.old) (K.faults sink.new) (K.taken sink.old) (K.taken sink.new) line.old.bytes result }
     ensures empty { line.new.bytes ≡ [] }
     ensures room { line.new.spare ≡ line.old.spare + length line.old.bytes }
