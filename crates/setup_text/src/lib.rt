@@ -3,6 +3,8 @@
 
 mod fault;
 mod setup;
+mod writing;
 
 pub use fault::{LimitOf, SetupFault, SetupKind};
 pub use setup::Setup;
+pub use writing::write_setup;
