@@ -1,5 +1,7 @@
 //! What can be wrong in a text of tables, a setup or a schedule.
 
+use no_memory::NoMemory;
+
 /// What there is too much or too little of.
 #[derive(Clone, Copy, Debug, PartialEq, Eq)]
 pub enum LimitOf {
@@ -47,4 +49,15 @@ pub enum SetupKind {
 pub enum SetupFault {
     Bad { line: u32, kind: SetupKind },
     NoMemory,
+}
+
+impl From<NoMemory> for SetupFault {
+    ghost use Rattle.std.specs.Prelude.{◌≡◌};
+    ghost use Rattle.setup_text.specs.declared.fault.SetupFault.TheVariants as faults;
+
+    ghost from_gives = { λ _ e. e ≡ faults.NoMemory };
+
+    fn from(_fault: NoMemory) -> SetupFault {
+        SetupFault::NoMemory
+    }
 }
