@@ -12,6 +12,7 @@ mod setup;
 mod table_lines;
 mod tables;
 mod words;
+mod writing;
 
 pub use book::read_book;
 pub use fault::{LimitOf, SetupFault, SetupKind};
@@ -19,6 +20,7 @@ pub use no_memory::NoMemory;
 pub use reading::read_setup;
 pub use schedule::read_schedule;
 pub use setup::Setup;
+pub use writing::write_setup;
 
 #[cfg(test)]
 mod tests;
