@@ -8,7 +8,6 @@ mod fault;
 mod names;
 mod reading;
 mod schedule;
-mod setup;
 mod table_lines;
 mod tables;
 mod words;

@@ -10,7 +10,7 @@ ghost use Rattle.table_text.specs.Writing.{table_room};
 ghost use Rattle.setup_text.specs.Spelling.{memory_row, word_row, board_row, access_row, shape_words, choose_words, tables_rows, board_rows, AccessFits, ChooseFits};
 ghost use Rattle.setup_text.specs.Writing.{words_from, text_of_table, text_of_board, boards_from, setup_room, written_setup};
 
-use crate::setup::Setup;
+use setup::Setup;
 use bus_signals::{Access, BoardNo};
 use class_relation::Table;
 use fb_text::Text;
