@@ -12,3 +12,4 @@ pub mod Granting
 pub mod Connecting
 pub mod Carrying
 pub mod Answering
+pub mod Turning
