@@ -1,0 +1,15 @@
+pub mod Changes
+pub mod Marks
+pub mod Counted
+pub mod Showing
+pub mod Same
+pub mod Alternatives
+pub mod Deciding
+pub mod Shown
+pub mod Requesting
+pub mod Telling
+pub mod Granting
+pub mod Connecting
+pub mod Carrying
+pub mod Answering
+pub mod Turning

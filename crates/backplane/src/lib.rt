@@ -6,6 +6,7 @@ mod histories;
 mod machine;
 mod moved;
 mod parts;
+mod permits;
 mod phase;
 mod plan;
 mod setup;

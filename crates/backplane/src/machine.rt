@@ -13,6 +13,7 @@ use std::marker::Model;
 mod advancing;
 mod effects;
 mod reading;
+mod rounds;
 
 /// A machine that runs a setup of accepted tables. Contracts see its setup and its journal; its configuration is the one
 /// that these two give.
