@@ -1,3 +1,4 @@
 pub mod Naming
 pub mod Drafts
 pub mod TableLines
+pub mod LineSteps

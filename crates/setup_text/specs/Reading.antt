@@ -4,6 +4,7 @@ use Rattle.std.specs.List.{list_any}
 use Rattle.std.specs.Str.{bytes_eq}
 use Rattle.fb_text.specs.declared.fault.TextKind.{TextKind}
 use Rattle.fb_text.specs.Lines.{is_empty}
+use Rattle.fb_text.specs.Number.{number_of}
 use Rattle.fb_text.specs.Places.{Words}
 use Rattle.fb_text.specs.Unread.{Unread, Line, first, number_in, number_within}
 use Rattle.bus_signals.specs.declared.Access.{Access}
@@ -338,10 +339,18 @@ book_at u = book_lines (whole []) u.lines u.end
 
 -- ---- schedules
 
+-- The place of one of so many boards.
+abbrev pub place_within : Result ℕ TextKind → Result ℕ SetupKind
+place_within (Ok n) = if nat_eq n 0 then Err Number else Ok n
+place_within (Err kind) = Err Number
+
+abbrev pub place_in : ℕ → List ℕ → Result ℕ SetupKind
+place_in boards w = place_within (number_within boards (number_of w))
+
 -- The places on the rest of a line, behind others.
 unfoldable pub places_on : ℕ → List ℕ → Words → Result (List ℕ) SetupKind
 places_on boards turns [] = Ok turns
-places_on boards turns (w ∷ ws) = number_from_one boards (w ∷ ws) >>= λ p. places_on boards (turns ++ p.0 ∷ []) ws
+places_on boards turns (w ∷ ws) = place_in boards w >>= λ p. places_on boards (turns ++ p ∷ []) ws
 
 unfoldable pub schedule_lines : ℕ → List ℕ → List Line → Result (List ℕ) Fault
 schedule_lines boards turns [] = Ok turns

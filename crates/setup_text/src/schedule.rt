@@ -8,12 +8,22 @@ ghost use Rattle.setup_text.specs.Spelling.{ScheduleFits, schedule_items};
 ghost use Rattle.setup_text.specs.Values.{turns_of};
 ghost use Rattle.setup_text.specs.Grammars.{schedule_grammar};
 ghost use Rattle.setup_text.specs.Correct.{IsSchedule, ArePlaces, IsReadAs, IsFirstFault};
-ghost use Rattle.setup_text.specs.Reading.{Gives, Answers, places_on, schedule_at};
+ghost use Rattle.setup_text.specs.Reading.{Gives, Answers, place_in, places_on, schedule_at};
 
 use crate::fault::{SetupFault, SetupKind};
 use crate::words::bad;
 use fb_text::{Scan, number_within};
 use std::alloc::Global;
+
+/// The place of one of so many boards.
+fn place(scan: &Scan, word: &[u8], boards: u8) -> Result<u8, SetupFault>
+    ensures { Gives (λ p. p) result scan.now.line (place_in boards word.now) }
+{
+    match number_within(Some(word), u64::from(boards)) {
+        Ok(place) if place > 0 => Ok(place as u8),
+        _ => Err(bad(scan, SetupKind::Number)),
+    }
+}
 
 /// The places on a line.
 fn places(scan: &mut Scan, boards: u8, turns: &mut Vec<u8>) -> Result<(), SetupFault>
@@ -21,13 +31,10 @@ fn places(scan: &mut Scan, boards: u8, turns: &mut Vec<u8>) -> Result<(), SetupF
     ensures stays { StaysOnLine scan.old scan.new }
 {
     while let Some(word) = scan.next_word() {
-        let place = match number_within(Some(word), u64::from(boards)) {
-            Ok(place) if place > 0 => place as u8,
-            _ => return Err(bad(scan, SetupKind::Number)),
-        };
-        if turns.push(place).is_err() {
+        let place = place(scan, word, boards)?;
+        let Ok(()) = turns.push(place) else {
             return Err(SetupFault::NoMemory);
-        }
+        };
     }
     Ok(())
 }
