@@ -1,3 +1,5 @@
 pub mod Writes
 pub mod Naming
 pub mod Drafts
+pub mod TableLines
+pub mod LineSteps
