@@ -1,1 +1,6 @@
 pub mod Writes
+pub mod WrittenWords
+pub mod WrittenTables
+pub mod WrittenBoards
+pub mod WrittenRows
+pub mod WrittenSetup
