@@ -1,3 +1,5 @@
+pub mod Naming
+pub mod Drafts
 pub mod Writes
 pub mod WrittenWords
 pub mod WrittenTables

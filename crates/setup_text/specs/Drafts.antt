@@ -52,7 +52,7 @@ further p = (p.0 + 1, p.1)
 -- The place of a name from 0, and whether its table reaches no state but I.
 abbrev pub found_name : List Named → List ℕ → Option (ℕ × Bool)
 found_name [] name = None
-found_name (n ∷ names) name = if bytes_eq n.0 name then Some (0, n.1) else option_map further (found_name names name)
+found_name (n ∷ names) name = if bytes_eq name n.0 then Some (0, n.1) else option_map further (found_name names name)
 
 -- ---- what holds of it
 

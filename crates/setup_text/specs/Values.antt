@@ -27,7 +27,7 @@ names_of tables = map (λ (t : Table). t.name) tables
 -- The place of a name in a list of tables, from 0. It is past the end where no table has the name.
 abbrev pub place_of : List Table → List ℕ → ℕ
 place_of [] name = 0
-place_of (t ∷ tables) name = if bytes_eq t.name name then 0 else place_of tables name + 1
+place_of (t ∷ tables) name = if bytes_eq name t.name then 0 else place_of tables name + 1
 
 -- A board, among these tables.
 abbrev pub board_of : List Table → BoardText → BoardSpec

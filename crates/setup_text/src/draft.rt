@@ -42,10 +42,10 @@ impl Model for Draft {
 }
 
 /// Appends an access to the last script.
-fn add_access(scripts: &mut [Vec<Access>], access: Access) -> Result<(), NoMemory>
-    requires { 1 ≤ length scripts.old }
-    ensures ok { OnOk result (rows scripts.new ≡ access_added (rows scripts.old) access) }
-    ensures err { OnErr result (rows scripts.new ≡ rows scripts.old) }
+fn add_access(scripts: &mut Vec<Vec<Access>>, access: Access) -> Result<(), NoMemory>
+    requires { 1 ≤ length scripts.old.items }
+    ensures ok { OnOk result (rows scripts.new.items ≡ access_added (rows scripts.old.items) access) }
+    ensures err { OnErr result (rows scripts.new.items ≡ rows scripts.old.items) }
 {
     let last = scripts.len() - 1;
     match scripts[last].push(access) {
@@ -89,7 +89,8 @@ impl Draft {
     }
 
     pub fn boards(&self) -> &[BoardSpec]
-        ensures { result.now ≡ self.now.boards }
+        ensures boards { result.now ≡ self.now.boards }
+        ensures sound { IsDraft self.now }
     {
         &self.boards
     }
@@ -129,6 +130,7 @@ impl Draft {
         Ok(())
     }
 
+    #[tactic(auto, using(crate::proofs::Drafts::access_keeps, crate::proofs::Drafts::access_counted))]
     pub fn push_access(&mut self, access: Access) -> Result<(), NoMemory>
         requires some { 1 ≤ length self.old.boards }
         requires few { access_count self.old < 100000 }

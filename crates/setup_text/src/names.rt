@@ -36,12 +36,12 @@ impl Names {
     }
 
     /// The place of a name, from 0, and whether its table reaches no state but I.
-    pub fn find(&self, name: &[u8]) -> Option<(u32, bool)>
+    pub fn find(&self, name: &[u8]) -> Option<(usize, bool)>
         ensures { result ≡ found_name self.now name.now }
     {
         let place = self.found.get_index_of(name)?;
         let stays = self.found[place];
-        Some((place as u32, stays))
+        Some((place, stays))
     }
 
     pub fn push(&mut self, name: &[u8], stays_invalid: bool) -> Result<(), NoMemory>
@@ -49,12 +49,12 @@ impl Names {
         ensures { OnOk result (self.new ≡ self.old ++ (name.now, stays_invalid) ∷ []) }
     {
         let mut bytes = Vec::new(self.alloc);
-        if bytes.extend_from_slice(name).is_err() {
+        let Ok(()) = bytes.extend_from_slice(name) else {
             return Err(NoMemory);
-        }
-        match self.found.insert(bytes, stays_invalid) {
-            Ok(_) => Ok(()),
-            Err(_) => Err(NoMemory),
-        }
+        };
+        let Ok(_) = self.found.insert(bytes, stays_invalid) else {
+            return Err(NoMemory);
+        };
+        Ok(())
     }
 }

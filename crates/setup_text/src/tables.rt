@@ -62,7 +62,8 @@ impl Tables {
     pub fn find(&self, name: &[u8]) -> Option<(u32, bool)>
         ensures { result ≡ found_name (map named self.now) name.now }
     {
-        self.names.find(name)
+        let (place, stays_invalid) = self.names.find(name)?;
+        Some((place as u32, stays_invalid))
     }
 
     pub fn push(&mut self, table: Table) -> Result<(), NoMemory>
