@@ -69,9 +69,28 @@ choose_plain (Seed n) h = (refl, (decimal_plain n h, tt))
 board_plain : (b : BoardText) → BoardFits b → IsLine (board_row b)
 board_plain b h =
     let place = h.place in
-    let number = h.number.1 in
-    (omega arith, (refl, (decimal_plain b.place (omega arith), (refl, (decimal_plain b.number (omega arith), (refl, (name_plain b.table h.table,
-    all_append (λ w. is_word w ≡ true) (shape_words b.shape) (codes "choose" ∷ choose_words b.choose) (shape_plain b.shape h.shape) (refl, choose_plain b.choose h.choose))))))))
+    let number = h.number.1 in (
+      omega arith,
+      (
+        refl,
+        (
+          decimal_plain b.place (omega arith),
+          (
+            refl,
+            (
+              decimal_plain b.number (omega arith),
+              (
+                refl,
+                (
+                  name_plain b.table h.table,
+                  all_append (λ w. is_word w ≡ true) (shape_words b.shape) (codes "choose" ∷ choose_words b.choose) (shape_plain b.shape h.shape) (refl, choose_plain b.choose h.choose),
+                ),
+              ),
+            ),
+          ),
+        ),
+      ),
+    )
 
 boards_plain : (bs : List BoardText) → AllByRecursion BoardFits bs → AreLines (flat_map board_rows bs)
 boards_plain [] h = tt

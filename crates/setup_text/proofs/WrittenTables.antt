@@ -48,4 +48,4 @@ pub place_again : (ts : List Table) (i : ℕ) (d : Table) → AllPairs (λ (a b 
 place_again [] i d differ lt = absurd (omega arith)
 place_again (t ∷ ts) zero d differ lt = rw (same_bytes t.name) refl
 place_again (t ∷ ts) (suc i) d differ lt =
-    rw (other_bytes t.name (get_or ts i d).name (differ 0 (suc i) d (omega arith) lt)) (omega (arith, place_again ts i d (λ j k e less within. differ (suc j) (suc k) e (omega arith) (omega arith)) (omega arith)))
+    rw (other_bytes (get_or ts i d).name t.name (λ e. differ 0 (suc i) d (omega arith) lt (sym e))) (omega (arith, place_again ts i d (λ j k e less within. differ (suc j) (suc k) e (omega arith) (omega arith)) (omega arith)))

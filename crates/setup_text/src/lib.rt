@@ -24,3 +24,5 @@ pub use writing::write_setup;
 
 #[cfg(test)]
 mod tests;
+#[cfg(test)]
+mod writing_tests;
