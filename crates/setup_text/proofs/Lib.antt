@@ -1,5 +1,6 @@
 pub mod Naming
 pub mod Drafts
+pub mod TableLines
 pub mod Writes
 pub mod WrittenWords
 pub mod WrittenTables

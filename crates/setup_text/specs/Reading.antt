@@ -363,9 +363,9 @@ GivesTable (Ok t) left read = read ≡ Ok (t, left)
 GivesTable (Err e) left read = FailsAs e read
 
 -- What a function returned, seen by mode, leads on to the lines that are left, unless memory ran out.
-abbrev pub GoesOn : {X : Type 0} → (X → Mode) → Result X SetupFault → Unread → Result Setup Fault → Type 0
-GoesOn mode (Ok x) left read = read ≡ lines_at (mode x) left.lines left.end
-GoesOn mode (Err e) left read = FailsAs e read
+abbrev pub GoesOn : {X M R : Type 0} → (M → List Line → ℕ → Result R Fault) → (X → M) → Result X SetupFault → Unread → Result R Fault → Type 0
+GoesOn lines mode (Ok x) left read = read ≡ lines (mode x) left.lines left.end
+GoesOn lines mode (Err e) left read = FailsAs e read
 
 -- The mode behind a line of a setup, which may be its last.
 abbrev pub mode_after : Setup → Bool → Mode
@@ -373,8 +373,8 @@ mode_after setup true = ended setup
 mode_after setup false = body setup
 
 -- What a line that was begun and the lines behind it give.
-abbrev pub then_lines : Unread → Result Mode SetupKind → Result Setup Fault
-then_lines u read = on_line u.line read >>= λ next. lines_at next u.lines u.end
+abbrev pub then_lines : {M R : Type 0} → (M → List Line → ℕ → Result R Fault) → Unread → Result M SetupKind → Result R Fault
+then_lines lines u read = on_line u.line read >>= λ next. lines next u.lines u.end
 
 -- What a reader returned, seen by view, is what reading gives, unless memory ran out.
 abbrev pub Answers : {X Y : Type 0} → (X → Y) → Result X SetupFault → Result Y Fault → Type 0

@@ -7,7 +7,7 @@ ghost use Rattle.table_text.specs.Reading.{StaysOnLine};
 ghost use Rattle.setup_text.specs.Spelling.{ScheduleFits, schedule_items};
 ghost use Rattle.setup_text.specs.Values.{turns_of};
 ghost use Rattle.setup_text.specs.Grammars.{schedule_grammar};
-ghost use Rattle.setup_text.specs.Correct.{IsSchedule, IsReadAs, IsFirstFault};
+ghost use Rattle.setup_text.specs.Correct.{IsSchedule, ArePlaces, IsReadAs, IsFirstFault};
 ghost use Rattle.setup_text.specs.Reading.{Gives, Answers, places_on, schedule_at};
 
 use crate::fault::{SetupFault, SetupKind};
@@ -53,6 +53,8 @@ pub fn read_schedule(alloc: Global, bytes: &[u8], boards: u8) -> Result<Vec<u8>,
     ensures spelled { IfOk result (λ v. IsSchedule boards bytes.now v.items) }
     // What is spelled so is read.
     ensures only { (lines : List (List ℕ)) → ScheduleFits boards lines → items (text_places bytes.now) ≡ schedule_items lines → IsReadAs (λ v. v.items) result (turns_of lines) }
+    // Each is the place of a board.
+    ensures places { IfOk result (λ v. ArePlaces boards v.items) }
     // A fault is that of the first place at fault, with its line and its kind.
     ensures first { IfErr result (IsFirstFault (schedule_grammar boards) bytes.now) }
     // Which places or which fault it is.
