@@ -1,4 +1,4 @@
-use Rattle.std.proofs.Common.{◌≡◌, List, length, take, sum_by}
+use Rattle.std.proofs.Common.{◌≡◌, length, take, sum_by}
 use Rattle.std.specs.Global.{Vec}
 use Rattle.bus_signals.specs.declared.Access.{Access}
 use Rattle.setup_text.proofs.setup.Setup.accesses.Given as goal
