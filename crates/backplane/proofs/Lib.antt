@@ -4,3 +4,14 @@ pub mod Counted
 pub mod Showing
 pub mod Grants
 pub mod Planning
+pub mod Same
+pub mod Alternatives
+pub mod Deciding
+pub mod Shown
+pub mod Requesting
+pub mod Telling
+pub mod Granting
+pub mod Connecting
+pub mod Carrying
+pub mod Answering
+pub mod Turning
