@@ -37,15 +37,15 @@ swap-place f xs zero (suc b) = refl
 swap-place f xs (suc a) zero = refl
 swap-place f xs (suc a) (suc b) = swap-index f xs a b
 
-set-index : (f : ℕ → ℕ) (xs : List ℕ) (k : ℕ) → set xs k (f (get_or xs k 0)) ≡ change_index f xs k
-set-index f [] k = refl
-set-index f (x ∷ xs) zero = refl
-set-index f (x ∷ xs) (suc k) = ap (λ ys. x ∷ ys) (set-index f xs k)
+set-index : (f : ℕ → ℕ) (xs : List ℕ) (k y : ℕ) → k < length xs → y ≡ get_or xs k y → set xs k (f y) ≡ change_index f xs k
+set-index f [] k y l e = absurd (omega arith)
+set-index f (x ∷ xs) zero y l e = ap (λ z. f z ∷ xs) e
+set-index f (x ∷ xs) (suc k) y l e = ap (λ ys. x ∷ ys) (set-index f xs k y (omega arith) e)
 
 -- A number of a list is changed by setting it.
-pub set-place : (f : ℕ → ℕ) (xs : List ℕ) (b k : ℕ) → 1 ≤ b → k ≡ b - 1 → set xs k (f (get_or xs k 0)) ≡ change_place f xs b
-set-place f xs zero k low e = absurd (omega arith)
-set-place f xs (suc b) k low e = let same : k ≡ b = omega arith in rw same (set-index f xs b)
+pub set-place : (f : ℕ → ℕ) (xs : List ℕ) (b k y : ℕ) → 1 ≤ b → k ≡ b - 1 → b ≤ length xs → y ≡ get_or xs k y → set xs k (f y) ≡ change_place f xs b
+set-place f xs zero k y low e high is = absurd (omega arith)
+set-place f xs (suc b) k y low e high is = let same : k ≡ b = omega arith in let at : y ≡ get_or xs b y = rw same at is in rw same (set-index f xs b y (omega arith) at)
 
 get-index : {X : Type 0} (xs : List X) (k : ℕ) (d : X) → k < length xs → slice_get xs k ≡ Some (get_or xs k d)
 get-index [] k d l = absurd (omega arith)

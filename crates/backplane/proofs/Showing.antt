@@ -19,6 +19,7 @@ use Rattle.connect_phase.specs.Answering.{rack_answered, with_answers}
 use Rattle.connect_phase.proofs.Showing.{one-place, answers-spent}
 use Rattle.data_phase.specs.Seen.{Shows, rack_after}
 use Rattle.backplane.specs.declared.phase.Phase.{Phase}
+use Rattle.backplane.specs.declared.phase.Phase.TheVariants.{Idle}
 use Rattle.backplane.specs.declared.parts.Parts.{Parts}
 use Rattle.backplane.specs.Parts.{PartsShow, MarksFit, phase_of}
 use Rattle.backplane.proofs.Changes.{map-place, kept-place, swap-place}
@@ -146,32 +147,64 @@ shown-put setup c p rack b l state words e s =
     shown-put-by (has_row c.rows b l) (holds state) setup c p rack b l state words here s
 
 -- The phase that is left where a board has a grant, and where it has none.
-pub grant-left : (phase : model.Phase) (b : ℕ) → is_granted phase b ≡ true → model.Idle ≡ without_grant phase b
+grant-left : (phase : model.Phase) (b : ℕ) → is_granted phase b ≡ true → model.Idle ≡ without_grant phase b
 grant-left model.Idle b h = refl
 grant-left (model.Granted g) b h = rw h refl
 grant-left (model.Connected t) b h = cc
 
-pub no-grant-left : (phase : model.Phase) (b : ℕ) → is_granted phase b ≡ false → phase ≡ without_grant phase b
+no-grant-left : (phase : model.Phase) (b : ℕ) → is_granted phase b ≡ false → phase ≡ without_grant phase b
 no-grant-left model.Idle b h = refl
 no-grant-left (model.Granted g) b h = rw h refl
 no-grant-left (model.Connected t) b h = refl
 
--- An access that a board completes by itself, but for the phase.
-pub shown-settled : (setup : Setup) (c : Configuration) (p : Parts) (put spent : Rack) (requests : Requests) (places : Vec ℕ) (b : ℕ) (state : State) (done : Done) → 1 ≤ b
-    → put ≡ rack_put p.rack b (access_line done.access) state (written done.access (words_at p.rack.rows b (access_line done.access)))
-    → spent ≡ rack_spent put b → requests ≡ with_request p.requests b false → places.items ≡ change_place suc p.places.items b
+-- What a board does to the parts where it completes an access by itself: it puts its copy, spends a draw, lowers its request and goes to its next place.
+pub record Settles (p : Parts) (put spent : Rack) (requests : Requests) (places : Vec ℕ) (b line : ℕ) (state : State) (words : List ℕ) : Type 0 where
+  pub puts : put ≡ rack_put p.rack b line state words
+  pub spends : spent ≡ rack_spent put b
+  pub lowers : requests ≡ with_request p.requests b false
+  pub completes : places.items ≡ change_place suc p.places.items b
+
+-- The words of the copy, with the written word.
+pub words-written : (p : Parts) (b line : ℕ) (copied words : List ℕ) (done : Done) → line ≡ access_line done.access → copied ≡ words_at p.rack.rows b line → words ≡ written done.access copied
+    → words ≡ written done.access (words_at p.rack.rows b (access_line done.access))
+words-written p b line copied words done el ec ew = ew ∙ ap (written done.access) (ec ∙ ap (words_at p.rack.rows b) el)
+
+shown-settled : (setup : Setup) (c : Configuration) (p : Parts) (put spent : Rack) (requests : Requests) (places : Vec ℕ) (b line : ℕ) (state : State) (words : List ℕ) (done : Done) → 1 ≤ b
+    → Settles p put spent requests places b line state words → line ≡ access_line done.access → words ≡ written done.access (words_at p.rack.rows b (access_line done.access))
     → PartsShow setup c p
     → PartsShow setup (ask false (spend (complete (put_copy c b (access_line done.access) state (written done.access (words_at c.rows b (access_line done.access)))) b) b) b)
       (record p { rack = spent; requests = requests; places = places })
-shown-settled setup c p put spent requests places b state done low ep es er en s =
-    let line = access_line done.access in
-    let words = written done.access (words_at c.rows b line) in
-    let moved = put_copy c b line state words in
-    let ep2 : put ≡ rack_put p.rack b line state words = ep ∙ ap (λ (rows : List Row). rack_put p.rack b line state (written done.access (words_at rows b line))) s.rack.rows in
-    let first = shown-put setup c p put b line state words ep2 s in
-    let second = shown-complete setup moved (record p { rack = put }) places b en first in
-    let third = shown-spend setup (complete moved b) (record p { rack = put; places = places }) spent b es second in
-    shown-ask setup (spend (complete moved b) b) (record p { rack = spent; places = places }) requests b false low er third
+shown-settled setup c p put spent requests places b line state words done low h el ew s =
+    let at = access_line done.access in
+    let now = written done.access (words_at c.rows b at) in
+    let moved = put_copy c b at state now in
+    let puts : put ≡ rack_put p.rack b at state now =
+    h.puts ∙ ap (λ (l : ℕ). rack_put p.rack b l state words) el
+    ∙ ap (λ (w : List ℕ). rack_put p.rack b at state w) (ew ∙ ap (λ (rows : List Row). written done.access (words_at rows b at)) s.rack.rows) in
+    let first = shown-put setup c p put b at state now puts s in
+    let second = shown-complete setup moved (record p { rack = put }) places b h.completes first in
+    let third = shown-spend setup (complete moved b) (record p { rack = put; places = places }) spent b h.spends second in
+    shown-ask setup (spend (complete moved b) b) (record p { rack = spent; places = places }) requests b false low h.lowers third
+
+-- An access that a board completes by itself, where it has no grant.
+pub shown-local : (setup : Setup) (c : Configuration) (p : Parts) (put spent : Rack) (requests : Requests) (places : Vec ℕ) (b line : ℕ) (state : State) (words : List ℕ) (done : Done) → 1 ≤ b
+    → Settles p put spent requests places b line state words → line ≡ access_line done.access → words ≡ written done.access (words_at p.rack.rows b (access_line done.access))
+    → is_granted (phase_of p.phase) b ≡ false → PartsShow setup c p
+    → PartsShow setup (after_local c b state done) (record p { rack = spent; requests = requests; places = places })
+shown-local setup c p put spent requests places b line state words done low h el ew granted s =
+    let settled = shown-settled setup c p put spent requests places b line state words done low h el ew s in
+    let left : phase_of p.phase ≡ without_grant c.phase b = s.phase ∙ no-grant-left c.phase b (ap (λ (q : model.Phase). is_granted q b) (sym s.phase) ∙ granted) in
+    shown-phase setup _ (record p { rack = spent; requests = requests; places = places }) p.phase (without_grant c.phase b) left settled
+
+-- The same where it gives a grant up.
+pub shown-local-granted : (setup : Setup) (c : Configuration) (p : Parts) (put spent : Rack) (requests : Requests) (places : Vec ℕ) (b line : ℕ) (state : State) (words : List ℕ) (done : Done) → 1 ≤ b
+    → Settles p put spent requests places b line state words → line ≡ access_line done.access → words ≡ written done.access (words_at p.rack.rows b (access_line done.access))
+    → is_granted (phase_of p.phase) b ≡ true → PartsShow setup c p
+    → PartsShow setup (after_local c b state done) (record p { rack = spent; requests = requests; phase = Idle; places = places })
+shown-local-granted setup c p put spent requests places b line state words done low h el ew granted s =
+    let settled = shown-settled setup c p put spent requests places b line state words done low h el ew s in
+    let left : model.Idle ≡ without_grant c.phase b = grant-left c.phase b (ap (λ (q : model.Phase). is_granted q b) (sym s.phase) ∙ granted) in
+    shown-phase setup _ (record p { rack = spent; requests = requests; places = places }) Idle (without_grant c.phase b) left settled
 
 answered-swap : (answers : List Answer) (boards : List Progress) (m : ℕ) → answered (change_place spent boards m) answers ≡ change_place spent (answered boards answers) m
 answered-swap [] boards m = refl
