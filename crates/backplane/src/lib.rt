@@ -12,6 +12,6 @@ mod plan;
 mod setup;
 
 pub use assembling::{AssembleFault, assemble};
-pub use machine::Machine;
+pub use machine::{Machine, NotARun};
 pub use moved::{Moved, Why};
 pub use setup::Setup;
