@@ -13,3 +13,6 @@ pub mod Connecting
 pub mod Carrying
 pub mod Answering
 pub mod Turning
+pub mod Grants
+pub mod Planning
+pub mod Permitted
