@@ -137,6 +137,31 @@ impl Requests {
         self.raised[board.0 as usize - 1]
     }
 
+    /// The grant that the lines settle to: the competing board with the highest number. `None` where nobody competes.
+    pub fn contest(&self) -> Option<Grant>
+        ensures none { IsNone result ↔ (competitors self.now ≡ []) }
+        ensures board { IfSome result (λ grant. IsBoard self.now grant.winner) }
+        ensures raised { IfSome result (λ grant. has_raised self.now grant.winner ≡ true) }
+        ensures highest { IfSome result (λ grant. number_at self.now grant.winner ≡ highest (competitors self.now)) }
+        ensures first { IfSome result (λ grant. winner_with self.now (highest (competitors self.now)) ≡ Some grant.winner) }
+        ensures lines { IfSome result (λ grant. grant.settled.lines ≡ settled_lines (competitors self.now)) }
+        ensures shown { IfSome result (λ grant. grant.settled.lines ≡ number_at self.now grant.winner) }
+        ensures rounds { IfSome result (λ grant. grant.settled.rounds ≡ settled_rounds (competitors self.now)) }
+    {
+        let (numbers, count) = gather(&self.numbers, &self.raised);
+        if count == 0 {
+            return None;
+        }
+        let settled = settled::<Brand>(Blank::new(1), &numbers[..count]);
+        let Some(index) = index_of(&self.numbers, &self.raised, settled.lines) else {
+            return None;
+        };
+        Some(Grant {
+            winner: BoardNo(index as u8 + 1),
+            settled,
+        })
+    }
+
     /// Grants the bus to the competing board with the highest number, and lowers its request. `None` where nobody competes.
     pub fn grant(&mut self) -> Option<Grant>
         ensures none { IsNone result ↔ (competitors self.old ≡ []) }
@@ -150,18 +175,10 @@ impl Requests {
         ensures shown { IfSome result (λ grant. grant.settled.lines ≡ number_at self.old grant.winner) }
         ensures rounds { IfSome result (λ grant. grant.settled.rounds ≡ settled_rounds (competitors self.old)) }
     {
-        let (numbers, count) = gather(&self.numbers, &self.raised);
-        if count == 0 {
-            return None;
-        }
-        let settled = settled::<Brand>(Blank::new(1), &numbers[..count]);
-        let Some(index) = index_of(&self.numbers, &self.raised, settled.lines) else {
+        let Some(grant) = self.contest() else {
             return None;
         };
-        self.raised[index] = false;
-        Some(Grant {
-            winner: BoardNo(index as u8 + 1),
-            settled,
-        })
+        self.lower(grant.winner);
+        Some(grant)
     }
 }

@@ -11,6 +11,8 @@ fn the_highest_number_wins(rt: HostRuntime) -> Result<(), Fail> {
     requests.raise(BoardNo(1));
     requests.raise(BoardNo(2));
     requests.raise(BoardNo(3));
+    let contest = requests.contest().ok_or("contest")?;
+    assert_eq!(rt; contest.winner, BoardNo(2));
     let three = requests.grant().ok_or("three")?;
     assert_eq!(rt; three.winner, BoardNo(2));
     assert_eq!(rt; three.settled.lines, 10);

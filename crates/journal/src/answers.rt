@@ -80,4 +80,18 @@ impl Answers {
     {
         &self.items[..self.len]
     }
+
+    /// The same answers again.
+    pub fn copy(&self) -> Answers
+        ensures { result ≡ self.now }
+    {
+        let mut answers = Answers::new();
+        for answer in self.items() {
+            answers.push(Answer {
+                board: answer.board,
+                action: answer.action,
+            });
+        }
+        answers
+    }
 }

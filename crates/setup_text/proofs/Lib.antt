@@ -4,3 +4,9 @@ pub mod TableLines
 pub mod LineSteps
 pub mod Texts
 pub mod Schedules
+pub mod Writes
+pub mod WrittenWords
+pub mod WrittenTables
+pub mod WrittenBoards
+pub mod WrittenRows
+pub mod WrittenSetup

@@ -7,7 +7,7 @@ ghost use Rattle.table_check.specs.Setup.{BoardFits, access_count};
 ghost use Rattle.setup_text.specs.Drafts.{empty_setup, with_word, with_table, with_board, with_access, access_added, named, found_name, IsDraft};
 ghost use Rattle.setup_text.specs.Reading.{has_number};
 
-use crate::setup::Setup;
+use setup::Setup;
 use crate::tables::Tables;
 use bus_signals::Access;
 use class_relation::Table;

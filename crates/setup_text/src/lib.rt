@@ -8,10 +8,10 @@ mod fault;
 mod names;
 mod reading;
 mod schedule;
-mod setup;
 mod table_lines;
 mod tables;
 mod words;
+mod writing;
 
 pub use book::read_book;
 pub use fault::{LimitOf, SetupFault, SetupKind};
@@ -19,6 +19,9 @@ pub use no_memory::NoMemory;
 pub use reading::read_setup;
 pub use schedule::read_schedule;
 pub use setup::Setup;
+pub use writing::write_setup;
 
 #[cfg(test)]
 mod tests;
+#[cfg(test)]
+mod writing_tests;

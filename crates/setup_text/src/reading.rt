@@ -14,7 +14,7 @@ ghost use Rattle.setup_text.specs.Reading.{Mode, Gives, Answers, GoesOn, mode_af
 use crate::board_line::board;
 use crate::draft::Draft;
 use crate::fault::{LimitOf, SetupFault, SetupKind};
-use crate::setup::Setup;
+use setup::Setup;
 use crate::table_lines::table;
 use crate::words::{access, bad, limit, line_end, memory_lines, this_word, value_line};
 use bus_signals::LocalEvent;

@@ -1,0 +1,15 @@
+//! The machine: the boards of a setup take turns on one bus, and a journal keeps what happens.
+#![tactic(auto)]
+
+mod assembling;
+mod histories;
+mod machine;
+mod moved;
+mod parts;
+mod permits;
+mod phase;
+mod plan;
+
+pub use assembling::{AssembleFault, assemble};
+pub use machine::{Machine, NotARun};
+pub use moved::{Moved, Why};
