@@ -8,3 +8,5 @@ pub mod WrittenTables
 pub mod WrittenBoards
 pub mod WrittenRows
 pub mod WrittenSetup
+pub mod LinesAgain
+pub mod RowsAgain
