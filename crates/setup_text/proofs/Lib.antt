@@ -10,3 +10,4 @@ pub mod WrittenRows
 pub mod WrittenSetup
 pub mod LinesAgain
 pub mod RowsAgain
+pub mod ReadAgain

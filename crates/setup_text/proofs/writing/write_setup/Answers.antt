@@ -4,7 +4,6 @@ use Rattle.class_relation.specs.Tables.{Table}
 use Rattle.setup_text.specs.Spelling.{memory_row, word_row, tables_rows}
 use Rattle.setup_text.specs.Writing.{words_from, text_of_table}
 use Rattle.setup_text.proofs.Writes.{setup_written}
-use Rattle.setup_text.proofs.RowsAgain.{rows_then}
 use Rattle.setup_text.proofs.writing.write_setup.Goals as goal
 
 pub returns-clause-written : goal.returns-clause-written
