@@ -98,7 +98,7 @@ length-filtered p (x ∷ xs) = go (p x) (length-filtered p xs)
     go true rest = omega arith
     go false rest = omega arith
 
-length-mapped : {X Y : Type 0} (f : X → Y) (xs : List X) → length (map f xs) ≡ length xs
+pub length-mapped : {X Y : Type 0} (f : X → Y) (xs : List X) → length (map f xs) ≡ length xs
 length-mapped f [] = refl
 length-mapped f (x ∷ xs) = ap suc (length-mapped f xs)
 

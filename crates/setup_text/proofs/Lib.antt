@@ -2,6 +2,8 @@ pub mod Naming
 pub mod Drafts
 pub mod TableLines
 pub mod LineSteps
+pub mod Texts
+pub mod Schedules
 pub mod Writes
 pub mod WrittenWords
 pub mod WrittenTables

@@ -1,18 +1,22 @@
-use Rattle.std.proofs.Common.{rules, ◌≡◌, ℕ, ◌+◌, ◌-◌, ◌*◌, ◌<◌, ◌≤◌, length, ◌/◌, ◌%◌, Bool, true, false, nat_eq, nat_lt, List, [], ◌∷◌, ◌++◌, slice_index_or, slice_set, bit_and, bit_or, Fits, w8, w32, w64, Bor, MutBor}
-use Rattle.bus_model.specs.Setup.{Setup}
-use Rattle.bus_model.specs.Configuration.{Configuration, is_granted, is_raised}
-use Rattle.bus_model.specs.Board.{is_clean}
-use Rattle.bus_model.specs.Carrying.{reply_of}
-use Rattle.bus_model.specs.Steps.{is_quiet}
-use Rattle.bus_model.specs.Turns.{local_turn, request_turn, bus_turn, room_turn, transaction_turn, access_turn, own_transaction, victim_for}
-use Rattle.backplane.specs.Parts.{PartsShow, IsPartOf}
-use Rattle.backplane.specs.Plans.{planned}
+use Rattle.std.proofs.Common.{◌∙◌, ap, sym}
+use Rattle.bus_signals.specs.Accesses.{line_of}
+use Rattle.bus_model.specs.Turns.{local_turn, action_turn}
+use Rattle.backplane.proofs.Planning.{decide-shown, action-shown}
 use Rattle.backplane.proofs.parts.Parts.plan.Goals as goal
 
--- src/plan.rt:71:5
 pub returns-in-None : goal.returns-in-None
-returns-in-None c = ?
+returns-in-None c = λ setup events x sound s.
+    let action = c.decide-action.result in
+    let decided = c.decide-action.ensures.pick ∙ decide-shown setup x c.args.self.now c.args.board c.line.result c.kind.result c.args.access.now s (c.line.ensures ∙ ap line_of c.addr.ensures) c.kind.ensures in
+    c.plan_local.ensures setup x s
+    ∙ ap (local_turn setup x c.args.board c.args.access.now) c.settle.ensures
+    ∙ ap (action_turn setup x c.args.board c.args.access.now action.result) (sym c.in-None.is)
+    ∙ action-shown setup x c.args.self.now c.args.board c.args.access.now action s (sym c.is_connected.ensures ∙ c.if-is_connected.false) decided
 
--- src/plan.rt:71:5
 pub returns-in-Some : goal.returns-in-Some
-returns-in-Some c = ?
+returns-in-Some c = λ setup events x sound s.
+    let action = c.decide-action.result in
+    let decided = c.decide-action.ensures.pick ∙ decide-shown setup x c.args.self.now c.args.board c.line.result c.kind.result c.args.access.now s (c.line.ensures ∙ ap line_of c.addr.ensures) c.kind.ensures in
+    c.plan_transaction.ensures setup events x sound s
+    ∙ ap (action_turn setup x c.args.board c.args.access.now action.result) (sym c.in-Some.is)
+    ∙ action-shown setup x c.args.self.now c.args.board c.args.access.now action s (sym c.is_connected.ensures ∙ c.if-is_connected.false) decided

@@ -1,14 +1,9 @@
-use Rattle.std.proofs.Common.{rules, ◌≡◌, ℕ, ◌+◌, ◌-◌, ◌*◌, ◌<◌, ◌≤◌, length, ◌/◌, ◌%◌, Bool, true, false, nat_eq, nat_lt, List, [], ◌∷◌, ◌++◌, slice_index_or, slice_set, bit_and, bit_or, Fits, w8, w32, w64, Bor, MutBor}
-use Rattle.bus_model.specs.Setup.{Setup}
-use Rattle.bus_model.specs.Configuration.{Configuration, is_granted, is_raised}
-use Rattle.bus_model.specs.Board.{is_clean}
-use Rattle.bus_model.specs.Carrying.{reply_of}
-use Rattle.bus_model.specs.Steps.{is_quiet}
-use Rattle.bus_model.specs.Turns.{local_turn, request_turn, bus_turn, room_turn, transaction_turn, access_turn, own_transaction, victim_for}
-use Rattle.backplane.specs.Parts.{PartsShow, IsPartOf}
-use Rattle.backplane.specs.Plans.{planned}
+use Rattle.std.proofs.Common.{◌∙◌, ap, sym}
+use Rattle.bus_signals.specs.Accesses.{line_of}
+use Rattle.backplane.proofs.Planning.{victim-shown}
 use Rattle.backplane.proofs.parts.Parts.victim_for.Goals as goal
 
--- src/plan.rt:107:5
 pub returns-in-Some : goal.returns-in-Some
-returns-in-Some c = ?
+returns-in-Some c = λ setup events x sound s.
+    victim-shown setup events x c.args.self.now c.args.board c.line.result c.in-Some.line c.args.access.now c.args.outcome c.state_of.result sound s
+    (sym c.leaves_no_copy.ensures ∙ c.if-leaves_no_copy.false) (c.line.ensures ∙ ap line_of c.addr.ensures) (sym c.in-Some.is ∙ c.victim.ensures) c.state_of.ensures.state
