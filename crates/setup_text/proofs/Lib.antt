@@ -13,3 +13,4 @@ pub mod WrittenSetup
 pub mod LinesAgain
 pub mod RowsAgain
 pub mod ReadAgain
+pub mod BookAgain

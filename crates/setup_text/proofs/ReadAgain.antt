@@ -20,16 +20,16 @@ use Rattle.setup_text.proofs.WrittenRows.{setup_plain}
 use Rattle.setup_text.proofs.WrittenSetup.{fits, stands, value_again}
 use Rattle.setup_text.proofs.RowsAgain.{read_rows, setup_read}
 
-abbrev words_of : List Line → List Words
+abbrev pub words_of : List Line → List Words
 words_of ls = map (λ (l : Line). l.words) ls
 
 -- lines that are read one after another
-lines_read : (m n : Mode) (ls : List Line) (end : ℕ) → read_rows m (words_of ls) ≡ Ok n → lines_at m ls end ≡ lines_at n [] end
+lines_read : (m n : Mode) (ls : List Line) (end : ℕ) → read_rows line_at m (words_of ls) ≡ Ok n → lines_at m ls end ≡ lines_at n [] end
 unfolding lines_at
 lines_read m n [] end e = let same : m ≡ n = cc in ap (λ (x : Mode). lines_at x [] end) same
 lines_read m n (l ∷ ls) end e = go (λ next h. lines_read next n ls end h) (line_at m l.words) e
   where
-    go : ((next : Mode) → read_rows next (words_of ls) ≡ Ok n → lines_at next ls end ≡ lines_at n [] end) → (x : Result Mode SetupKind) → (x >>= λ next. read_rows next (words_of ls)) ≡ Ok n
+    go : ((next : Mode) → read_rows line_at next (words_of ls) ≡ Ok n → lines_at next ls end ≡ lines_at n [] end) → (x : Result Mode SetupKind) → (x >>= λ next. read_rows line_at next (words_of ls)) ≡ Ok n
         → (on_line l.number x >>= λ next. lines_at next ls end) ≡ lines_at n [] end
     go rest (Ok next) h = rest next h
     go rest (Err k) h = absurd cc
@@ -39,7 +39,7 @@ no_line [] x e = cc
 no_line (w ∷ ws) x e = cc
 
 -- the words of lines whose items are those of rows
-same_words : (ls : List Line) (end : ℕ) (rows : List Words) → items (lines_places ls end) ≡ lines_items rows ++ text_end ∷ [] → words_of ls ≡ rows
+pub same_words : (ls : List Line) (end : ℕ) (rows : List Words) → items (lines_places ls end) ≡ lines_items rows ++ text_end ∷ [] → words_of ls ≡ rows
 same_words [] end [] e = refl
 same_words [] end ([] ∷ rows) e = absurd cc
 same_words [] end ((w ∷ ws) ∷ rows) e = absurd cc
@@ -52,7 +52,7 @@ spelled_read : (bytes : List ℕ) (s : SetupText) → SetupStands s → items (t
 unfolding lines_at
 spelled_read bytes s stands e =
     let u = unread bytes in
-    lines_read start (ended (setup_of s)) u.lines u.end (ap (read_rows start) (same_words u.lines u.end (setup_rows s) e) ∙ setup_read s stands)
+    lines_read start (ended (setup_of s)) u.lines u.end (ap (read_rows line_at start) (same_words u.lines u.end (setup_rows s) e) ∙ setup_read s stands)
 
 pub is_read : (bytes : List ℕ) (r : Result Setup SetupFault) → Answers (λ s. s) r (setup_at (unread bytes)) → (s : SetupText) → SetupStands s → items (text_places bytes) ≡ setup_items s → IsReadAs (λ s. s) r (setup_of s)
 is_read bytes (Ok x) given s stands e = let both : ◌≡◌ {A = Result Setup Fault} (Ok x) (Ok (setup_of s)) = sym given ∙ spelled_read bytes s stands e in cc
@@ -62,12 +62,12 @@ is_read bytes (Err (faults.Bad line kind)) given s stands e = let both : ◌≡�
 -- ---- what was written
 
 -- rows that are read one after another, numbered in front of other lines
-rows_read : (m n : Mode) (k : ℕ) (rows : List Words) (back : List Line) (end : ℕ) → read_rows m rows ≡ Ok n → lines_at m (numbered_rows k rows back) end ≡ lines_at n back end
+rows_read : (m n : Mode) (k : ℕ) (rows : List Words) (back : List Line) (end : ℕ) → read_rows line_at m rows ≡ Ok n → lines_at m (numbered_rows k rows back) end ≡ lines_at n back end
 unfolding lines_at
 rows_read m n k [] back end e = let same : m ≡ n = cc in ap (λ (x : Mode). lines_at x back end) same
 rows_read m n k (r ∷ rows) back end e = go (λ next h. rows_read next n (k + 1) rows back end h) (line_at m r) e
   where
-    go : ((next : Mode) → read_rows next rows ≡ Ok n → lines_at next (numbered_rows (k + 1) rows back) end ≡ lines_at n back end) → (x : Result Mode SetupKind) → (x >>= λ next. read_rows next rows) ≡ Ok n
+    go : ((next : Mode) → read_rows line_at next rows ≡ Ok n → lines_at next (numbered_rows (k + 1) rows back) end ≡ lines_at n back end) → (x : Result Mode SetupKind) → (x >>= λ next. read_rows line_at next rows) ≡ Ok n
         → (on_line k x >>= λ next. lines_at next (numbered_rows (k + 1) rows back) end) ≡ lines_at n back end
     go rest (Ok next) h = rest next h
     go rest (Err kind) h = absurd cc
