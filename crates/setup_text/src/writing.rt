@@ -12,11 +12,11 @@ ghost use Rattle.setup_text.specs.Spelling.{word_row, board_row, access_row, sha
 ghost use Rattle.setup_text.specs.Correct.{IsSetup};
 ghost use Rattle.setup_text.specs.Writing.{words_from, text_of_table, text_of_board, boards_from, text_of, written_setup, setup_room, IsWholeSetup, places_behind};
 
-use setup::Setup;
 use bus_signals::{Access, BoardNo};
 use class_relation::Table;
 use fb_text::Text;
 use no_memory::NoMemory;
+use setup::Setup;
 use table_check::{BoardSpec, Choose, Shape};
 use table_text::{append_table, table_room};
 
