@@ -23,7 +23,7 @@ use Rattle.setup_text.specs.Drafts.{named, found_name}
 use Rattle.setup_text.specs.Reading.{BookMode, whole, within, Fault, Answers, on_line, head_name, book_line, book_lines, book_at}
 use Rattle.setup_text.proofs.TableLines.{entered_name}
 use Rattle.setup_text.proofs.RowsAgain.{read_rows, rows_then, row_then, not_found, new_name, Differ}
-use Rattle.setup_text.proofs.ReadAgain.{words_of, same_words}
+use Rattle.setup_text.proofs.ReadAgain.{words_of, same_lines}
 
 head_read : (tables : List Table) (name : List ℕ) → length tables < 16 → is_name name ≡ true → found_name (map named tables) name ≡ None → book_line (whole tables) (head_row name) ≡ Ok (within tables (empty_table name))
 unfolding head_name
@@ -64,7 +64,7 @@ spelled_read : (bytes : List ℕ) (ts : List TableText) → BookStands ts → it
 spelled_read bytes ts h e =
     let u = unread bytes in
     let read = tables_read [] ts (let few = h.few in omega arith) h.fits.1 h.cells h.names in
-    lines_read (whole []) (whole (tables_of ts)) u.lines u.end (ap (read_rows book_line (whole [])) (same_words u.lines u.end (tables_rows ts) e) ∙ read) ∙ some_tables ts u.end h.fits.0
+    lines_read (whole []) (whole (tables_of ts)) u.lines u.end (ap (read_rows book_line (whole [])) (same_lines u.lines u.end (tables_rows ts) e) ∙ read) ∙ some_tables ts u.end h.fits.0
 
 pub is_read : (bytes : List ℕ) (r : Result (Vec Table) SetupFault) → Answers (λ v. v.items) r (book_at (unread bytes)) → (ts : List TableText) → BookStands ts → items (text_places bytes) ≡ book_items ts → IsReadAs (λ v. v.items) r (tables_of ts)
 is_read bytes (Ok x) given ts stands e = let both : ◌≡◌ {A = Result (List Table) Fault} (Ok x.items) (Ok (tables_of ts)) = sym given ∙ spelled_read bytes ts stands e in cc
