@@ -111,9 +111,9 @@ fn empty_scripts(alloc: Global) -> Result<Vec<Vec<Access>>, NoMemory>
 }
 
 /// Appends an access to the script at an index.
-fn deal(scripts: &mut [Vec<Access>], index: usize, access: Access) -> Result<(), NoMemory>
-    requires { index < length scripts.old }
-    ensures { OnOk result (rows scripts.new ≡ with_access (rows scripts.old) index access) }
+fn deal(scripts: &mut Vec<Vec<Access>>, index: usize, access: Access) -> Result<(), NoMemory>
+    requires { index < length (rows scripts.old.items) }
+    ensures { OnOk result (rows scripts.new.items ≡ with_access (rows scripts.old.items) index access) }
 {
     match scripts[index].push(access) {
         Ok(()) => Ok(()),
