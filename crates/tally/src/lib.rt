@@ -2,6 +2,8 @@
 #![tactic(auto)]
 
 mod counts;
+#[cfg(test)]
+mod tests;
 mod text;
 
 pub use counts::{connect_counts, replies_sum};
