@@ -63,14 +63,10 @@ fn the_boards_of_the_largest_number(rt: HostRuntime) -> Result<(), Fail> {
 
 #[test]
 fn the_schedule_of_7(rt: HostRuntime) {
-    let mut turns = SeededTurns::new(7, 3, 2);
+    let mut turns = SeededTurns::new(7, 3, 1);
     let known = [3, 3, 2, 1, 1, 1, 3, 2, 3, 1, 1, 2, 3, 2, 2, 1];
     for board in known {
         assert_eq!(rt; turns.next_turn(), Some(board));
     }
-    let mut more = 0;
-    while let Some(_) = turns.next_turn() {
-        more += 1;
-    }
-    assert_eq!(rt; more, 16);
+    assert_eq!(rt; turns.next_turn(), None);
 }
