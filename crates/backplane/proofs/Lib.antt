@@ -15,3 +15,4 @@ pub mod Connecting
 pub mod Carrying
 pub mod Answering
 pub mod Turning
+pub mod Listing
