@@ -73,7 +73,7 @@ connected_once : (t u : Transaction) → Connected t ≡ Connected u → t ≡ u
 connected_once t u e = same_Some t u (ap connection_in e)
 
 -- A data phase may happen exactly where it is what the model says.
-only_one : (setup : Setup) (c : Configuration) (t : Transaction) (e : Carried) → c.phase ≡ Connected t → (IsSome (present_access setup c.boards t.master) × (e ≡ carried_of setup c t)) ↔ ((u : Transaction) × CanData setup c e u)
+pub only_one : (setup : Setup) (c : Configuration) (t : Transaction) (e : Carried) → c.phase ≡ Connected t → (IsSome (present_access setup c.boards t.master) × (e ≡ carried_of setup c t)) ↔ ((u : Transaction) × CanData setup c e u)
 only_one setup c t e phase = (λ p. (t, subst (λ x. CanData setup c x t) (sym p.1) (own p.0)), back)
   where
     own : IsSome (present_access setup c.boards t.master) → CanData setup c (carried_of setup c t) t
