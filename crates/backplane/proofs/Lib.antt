@@ -2,6 +2,8 @@ pub mod Changes
 pub mod Marks
 pub mod Counted
 pub mod Showing
+pub mod Grants
+pub mod Planning
 pub mod Same
 pub mod Alternatives
 pub mod Deciding
@@ -13,6 +15,4 @@ pub mod Connecting
 pub mod Carrying
 pub mod Answering
 pub mod Turning
-pub mod Grants
-pub mod Planning
 pub mod Permitted

@@ -9,9 +9,7 @@ mod parts;
 mod permits;
 mod phase;
 mod plan;
-mod setup;
 
 pub use assembling::{AssembleFault, assemble};
 pub use machine::{Machine, NotARun};
 pub use moved::{Moved, Why};
-pub use setup::Setup;

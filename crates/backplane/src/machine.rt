@@ -6,7 +6,7 @@ ghost use Rattle.backplane.specs.Standing.{Stands};
 
 use crate::histories::Histories;
 use crate::parts::Parts;
-use crate::setup::Setup;
+use setup::Setup;
 use journal::Event;
 use std::marker::Model;
 

@@ -1,12 +1,13 @@
 //! The report of the checker on tables.
 
-ghost use Rattle.std.specs.Prelude.{◌≡◌, ◌≤◌, ◌+◌, ◌++◌, ◌∷◌, [], length, flat_map, OnOk, IfOk};
+ghost use Rattle.std.specs.Prelude.{◌≡◌, ◌≤◌, ◌+◌, ◌++◌, ◌∷◌, [], length, flat_map, OnOk, IfOk, IfSome, IsNone, true, false};
+ghost use Rattle.std.specs.List.{list_all};
 ghost use Rattle.fb_text.specs.Written.{after_words, line_bytes};
 ghost use Rattle.table_check.specs.Accepted.{faults};
 ghost use Rattle.table_check.specs.declared.verdict.CellFault.TheVariants.{NotPermitted, Missing};
-ghost use Rattle.fb_cli.specs.Report.{cell_name, alternative_of, fault_bytes, verdict_words, verdict_line, report_on, is_accepted};
+ghost use Rattle.fb_cli.specs.Report.{is_accepted, cell_name, alternative_of, fault_bytes, verdict_words, verdict_line, report_on};
 ghost use Rattle.fb_cli.specs.Output.{report_output};
-ghost use Rattle.fb_cli.specs.Answers.{answer_output};
+ghost use Rattle.fb_cli.specs.Answers.{CanPrint, IsOutcome, answer_output};
 
 use crate::answers::Answer;
 use crate::words::{number, word};
@@ -139,7 +140,9 @@ fn write_report(alloc: Global, table: &Table, text: &mut Text) -> Result<bool, N
 
 /// The report on tables.
 pub fn report(alloc: Global, tables: &[Table]) -> Result<Answer, NoMemory>
-    ensures { IfOk result (λ answer. answer_output answer ≡ report_output tables.now) }
+    ensures output { IfOk result (λ answer. answer_output answer ≡ report_output tables.now) }
+    ensures outcome { IfOk result (λ answer. IsOutcome (answer_output answer).status) }
+    ensures can { IfOk result CanPrint }
 {
     let mut text = Text::new(alloc);
     let mut status = 0;
@@ -148,5 +151,18 @@ pub fn report(alloc: Global, tables: &[Table]) -> Result<Answer, NoMemory>
             status = 1;
         }
     }
-    Ok(Answer { status, text })
+    Ok(Answer::Said { status, text })
+}
+
+/// The report on tables, where one of them is not in the class.
+pub fn refusal(alloc: Global, tables: &[Table]) -> Result<Option<Answer>, NoMemory>
+    ensures none { IfOk result (λ refused. IsNone refused → list_all is_accepted tables.now ≡ true) }
+    ensures some { IfOk result (λ refused. IfSome refused (λ answer. (list_all is_accepted tables.now ≡ false) × (answer_output answer ≡ report_output tables.now))) }
+    ensures outcome { IfOk result (λ refused. IfSome refused (λ answer. IsOutcome (answer_output answer).status)) }
+    ensures can { IfOk result (λ refused. IfSome refused CanPrint) }
+{
+    match report(alloc, tables)? {
+        Answer::Said { status: 0, .. } => Ok(None),
+        answer => Ok(Some(answer)),
+    }
 }

@@ -157,7 +157,7 @@ unfolding table_line
 line_again t (local s e alts) whole can = rw (not_end (local s e alts), cell_again t (local s e alts) whole can) refl
 line_again t (answer s e alts) whole can = rw (not_end (answer s e alts), cell_again t (answer s e alts) whole can) refl
 
-end_again : (t : Table) → table_line t (codes "end" ∷ []) ≡ Ok (true, t)
+pub end_again : (t : Table) → table_line t (codes "end" ∷ []) ≡ Ok (true, t)
 unfolding table_line
 end_again t = refl
 

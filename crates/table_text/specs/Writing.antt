@@ -1,6 +1,8 @@
 -- The one spelling in which a table is written.
-use Rattle.std.specs.Prelude.{ℕ, List, [], ◌∷◌, ◌++◌, map, codes}
-use Rattle.fb_text.specs.Unread.{Unread, unread, at_next_line, after_word}
+use Rattle.std.specs.Prelude.{ℕ, ◌+◌, List, [], ◌∷◌, ◌++◌, length, map, codes}
+use Rattle.fb_text.specs.Lines.{lines}
+use Rattle.fb_text.specs.Places.{Words}
+use Rattle.fb_text.specs.Unread.{Unread, unread, numbered, at_next_line, after_word}
 use Rattle.fb_text.specs.Written.{lines_bytes}
 use Rattle.moesi_state.specs.declared.State.{State}
 use Rattle.moesi_state.specs.declared.State.TheVariants.{M, O, E, S, I}
@@ -42,10 +44,31 @@ cells_of t = state_lines t M ++ state_lines t O ++ state_lines t E ++ state_line
 unfoldable pub cells_bytes : List CellLine → List ℕ
 cells_bytes cells = lines_bytes (map cell_words cells)
 
--- the head line, the cells in cell order, and the `end` line
+-- the lines of a written table behind its head line: the cells in cell order, and the `end` line
+abbrev pub body_rows : Table → List Words
+body_rows t = map cell_words (cells_of t) ++ (codes "end" ∷ []) ∷ []
+
+-- the lines of a written table
+abbrev pub written_rows : Table → List Words
+written_rows t = (codes "table" ∷ t.name ∷ []) ∷ body_rows t
+
 unfoldable pub written_table : Table → List ℕ
-written_table t = lines_bytes ((codes "table" ∷ t.name ∷ []) ∷ (map cell_words (cells_of t) ++ (codes "end" ∷ []) ∷ []))
+written_table t = lines_bytes (written_rows t)
+
+-- the room that any written table fits in
+abbrev pub table_room : ℕ
+table_room = 16700
 
 -- what a scan of these bytes has yet to give behind the first two words
 abbrev pub after_head : List ℕ → Unread
 after_head bytes = after_word (after_word (at_next_line (unread bytes)))
+
+-- what a scan has yet to give behind the head line of a written table, which is the line with this number, where other bytes follow the table
+abbrev pub behind_head : ℕ → ℕ → Table → List ℕ → Unread
+behind_head line end t rest = record { line = line; words = []; lines = numbered (line + 1) (lines (lines_bytes (body_rows t) ++ rest)); end = end }
+
+-- what it has yet to give behind the table: the bytes that follow it
+abbrev pub behind_table : ℕ → ℕ → Table → List ℕ → Unread
+behind_table line end t rest =
+    let last = line + length (body_rows t) in
+    record { line = last; words = []; lines = numbered (last + 1) (lines rest); end = end }

@@ -3,7 +3,7 @@
 ghost use Rattle.std.specs.Prelude.{◌≡◌, ℕ, [], ◌∷◌, true, codes, ◌++◌, List, IfOk, IfErr, OnOk};
 ghost use Rattle.class_words.specs.Words.{outcome_of, state_of};
 ghost use Rattle.table_text.specs.Reading.{Gives, GivesBar, FailsAs, StaysOnLine, IsLast, onto, signal_at, local_at, snoop_at, word_by, this_word, no_room, local_alternatives, snoop_alternatives, local_cell_at, snoop_cell_at, cell_line, line_ends, table_line, table_at, GivesTable};
-ghost use Rattle.table_text.specs.Writing.{written_table, after_head};
+ghost use Rattle.table_text.specs.Writing.{written_table, after_head, behind_head, behind_table};
 ghost use Rattle.class_relation.specs.Tables.{Table, IsWhole, empty_table, locals_of, answers_of};
 ghost use Rattle.std.specs.Option.{option_copied};
 ghost use Rattle.fb_text.specs.Places.{Item, items, places};
@@ -315,6 +315,9 @@ pub fn read_table(alloc: Global, scan: &mut Scan, name: Name) -> Result<Table, T
         → items (places scan.old) ≡ table_items cells ++ rest → IsReadAs result (table_of name cells) }
     // A table that was written is read again, whatever follows it.
     ensures written { (t : Table) (rest : List ℕ) → IsWhole t → name ≡ t.name → scan.old ≡ after_head (written_table t ++ rest) → IsReadAs result t }
+    // So it is behind other lines, and what follows it is then still to be read.
+    ensures goes_on { (t : Table) (line end : ℕ) (rest : List ℕ) → IsWhole t → name ≡ t.name → scan.old ≡ behind_head line end t rest
+        → IsReadAs result t × OnOk result (scan.new ≡ behind_table line end t rest) }
     // A fault is that of the first place at fault, with its line and its kind.
     ensures first { IfErr result (λ e. IsFirstFault e (places scan.old)) }
     // Which table or which fault it is.

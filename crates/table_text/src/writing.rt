@@ -5,7 +5,7 @@ ghost use Rattle.fb_text.specs.Written.{after_words, line_bytes, lines_bytes};
 ghost use Rattle.class_relation.specs.Tables.{IsWhole, locals_of, answers_of};
 ghost use Rattle.class_words.specs.Words.{state_word, local_event_word, bus_event_word, outcome_word};
 ghost use Rattle.table_text.specs.Spelling.{local_words, snoop_words, signal_words, alternative_words, cell_words, local, answer};
-ghost use Rattle.table_text.specs.Writing.{local_line, snoop_line, state_lines, cells_of, cells_bytes, written_table};
+ghost use Rattle.table_text.specs.Writing.{local_line, snoop_line, state_lines, cells_of, cells_bytes, written_table, table_room};
 
 use bus_signals::{BusEvent, LocalEvent};
 use class_relation::{LocalAction, SnoopAction, Table};
@@ -179,8 +179,24 @@ fn all_lines(text: &mut Text, table: &Table)
     state_lines(text, table, State::I);
 }
 
-/// The room that any table fits in.
-const ROOM: usize = 16700;
+/// The room that any written table fits in.
+pub fn table_room() -> usize
+    ensures { result ≡ table_room }
+{
+    16_700
+}
+
+/// Appends the one written spelling of a table, for which there is room.
+pub fn append_table(table: &Table, text: &mut Text)
+    requires { table_room ≤ text.old.spare }
+    ensures whole { IsWhole table.now }
+    ensures written { text.new.bytes ≡ text.old.bytes ++ written_table table.now }
+    ensures spare { text.old.spare ≤ text.new.spare + table_room }
+{
+    head(text, table);
+    all_lines(text, table);
+    text.push(b"end\n");
+}
 
 /// Appends the one written spelling of a table.
 pub fn write_table(table: &Table, text: &mut Text) -> Result<(), NoMemory>
@@ -188,10 +204,8 @@ pub fn write_table(table: &Table, text: &mut Text) -> Result<(), NoMemory>
     ensures written { OnOk result (text.new.bytes ≡ text.old.bytes ++ written_table table.now) }
     ensures err { OnErr result (text.new ≡ text.old) }
 {
-    text.reserve(ROOM)?;
-    head(text, table);
-    all_lines(text, table);
-    text.push(b"end\n");
+    text.reserve(table_room())?;
+    append_table(table, text);
     Ok(())
 }
 

@@ -3,6 +3,7 @@
 ghost use Rattle.std.specs.Prelude.{◌≡◌, ◌≤◌, ◌<◌, ◌+◌, ◌*◌, [], ◌++◌, ◌∷◌, ℕ, List, length, map, decimal, codes};
 ghost use Rattle.std.specs.List.{AllByRecursion};
 ghost use Rattle.bus_signals.specs.Accesses.{address_of};
+ghost use Rattle.fb_text.specs.Written.{KeepsRoom};
 ghost use Rattle.class_words.specs.Words.{state_word, bus_event_word, outcome_word};
 ghost use Rattle.journal.specs.declared.answers.Answer.{Answer};
 ghost use Rattle.journal.specs.declared.event.Event.{Event};
@@ -23,6 +24,7 @@ fn word(text: &mut Text, word: &str)
     requires { length word.now < text.old.spare }
     ensures bytes { text.new.bytes ≡ text.old.bytes ++ 32 ∷ word.now }
     ensures spare { text.old.spare ≤ text.new.spare + length word.now + 1 }
+    ensures kept { KeepsRoom text.old text.new }
 {
     text.push(b" ");
     text.push(word.as_bytes());
@@ -32,6 +34,7 @@ fn digits(text: &mut Text, value: u64)
     requires { length (decimal value) ≤ text.old.spare }
     ensures bytes { text.new.bytes ≡ text.old.bytes ++ decimal value }
     ensures spare { text.old.spare ≤ text.new.spare + length (decimal value) }
+    ensures kept { KeepsRoom text.old text.new }
 {
     let mut buffer = Buffer::new();
     text.push(buffer.format(value).as_bytes());
@@ -42,6 +45,7 @@ fn number(text: &mut Text, value: u64)
     requires { length (decimal value) < text.old.spare }
     ensures bytes { text.new.bytes ≡ text.old.bytes ++ 32 ∷ decimal value }
     ensures spare { text.old.spare ≤ text.new.spare + length (decimal value) + 1 }
+    ensures kept { KeepsRoom text.old text.new }
 {
     text.push(b" ");
     digits(text, value);
@@ -53,6 +57,7 @@ fn board(text: &mut Text, board: BoardNo)
     requires room { 3 ≤ text.old.spare }
     ensures bytes { text.new.bytes ≡ text.old.bytes ++ 32 ∷ decimal board }
     ensures spare { text.old.spare ≤ text.new.spare + 3 }
+    ensures kept { KeepsRoom text.old text.new }
 {
     number(text, u64::from(board.0));
 }
@@ -63,6 +68,7 @@ fn line_number(text: &mut Text, line: LineNo)
     requires room { 5 ≤ text.old.spare }
     ensures bytes { text.new.bytes ≡ text.old.bytes ++ 32 ∷ decimal line }
     ensures spare { text.old.spare ≤ text.new.spare + 5 }
+    ensures kept { KeepsRoom text.old text.new }
 {
     number(text, u64::from(line.0));
 }
@@ -73,6 +79,7 @@ fn address(text: &mut Text, addr: Addr)
     requires room { 6 ≤ text.old.spare }
     ensures bytes { text.new.bytes ≡ text.old.bytes ++ 32 ∷ decimal addr }
     ensures spare { text.old.spare ≤ text.new.spare + 6 }
+    ensures kept { KeepsRoom text.old text.new }
 {
     number(text, u64::from(addr.0));
 }
@@ -82,6 +89,7 @@ fn value(text: &mut Text, value: u32)
     requires { 11 ≤ text.old.spare }
     ensures bytes { text.new.bytes ≡ text.old.bytes ++ 32 ∷ decimal value }
     ensures spare { text.old.spare ≤ text.new.spare + 11 }
+    ensures kept { KeepsRoom text.old text.new }
 {
     number(text, u64::from(value));
 }
@@ -90,6 +98,7 @@ fn state(text: &mut Text, state: State)
     requires { 2 ≤ text.old.spare }
     ensures bytes { text.new.bytes ≡ text.old.bytes ++ 32 ∷ state_word state }
     ensures spare { text.old.spare ≤ text.new.spare + 2 }
+    ensures kept { KeepsRoom text.old text.new }
 {
     word(text, state_text(state));
 }
@@ -98,6 +107,7 @@ fn bus_event(text: &mut Text, event: BusEvent)
     requires { 4 ≤ text.old.spare }
     ensures bytes { text.new.bytes ≡ text.old.bytes ++ 32 ∷ bus_event_word event }
     ensures spare { text.old.spare ≤ text.new.spare + 4 }
+    ensures kept { KeepsRoom text.old text.new }
 {
     word(text, bus_event_text(event));
 }
@@ -106,6 +116,7 @@ fn outcome(text: &mut Text, outcome: Outcome)
     requires { 7 ≤ text.old.spare }
     ensures bytes { text.new.bytes ≡ text.old.bytes ++ 32 ∷ outcome_word outcome }
     ensures spare { text.old.spare ≤ text.new.spare + 7 }
+    ensures kept { KeepsRoom text.old text.new }
 {
     match outcome {
         Outcome::Fixed(state) => word(text, state_text(state)),
@@ -124,6 +135,7 @@ fn placed(text: &mut Text, place: &(BoardNo, State))
     requires room { 5 ≤ text.old.spare }
     ensures bytes { text.new.bytes ≡ text.old.bytes ++ 32 ∷ placed_word place.now }
     ensures spare { text.old.spare ≤ text.new.spare + 5 }
+    ensures kept { KeepsRoom text.old text.new }
 {
     board(text, place.0);
     text.push(b"=");
@@ -135,6 +147,7 @@ fn states(text: &mut Text, states: &[(BoardNo, State)])
     requires room { 5 * length states.now ≤ text.old.spare }
     ensures bytes { text.new.bytes ≡ text.old.bytes ++ each_behind 32 (map placed_word states.now) }
     ensures spare { text.old.spare ≤ text.new.spare + 5 * length states.now }
+    ensures kept { KeepsRoom text.old text.new }
 {
     for place in states {
         placed(text, place);
@@ -146,6 +159,7 @@ fn signal(text: &mut Text, asserted: bool, name: &str)
     requires short { length name.now ≡ 3 }
     ensures bytes { text.new.bytes ≡ text.old.bytes ++ mark asserted name.now }
     ensures spare { text.old.spare ≤ text.new.spare + 3 }
+    ensures kept { KeepsRoom text.old text.new }
 {
     if asserted {
         text.push(name.as_bytes());
@@ -158,6 +172,7 @@ fn answer(text: &mut Text, answer: &Answer)
     requires room { 14 ≤ text.old.spare }
     ensures bytes { text.new.bytes ≡ text.old.bytes ++ 32 ∷ answer_word answer.now }
     ensures spare { text.old.spare ≤ text.new.spare + 14 }
+    ensures kept { KeepsRoom text.old text.new }
 {
     board(text, answer.board);
     text.push(b"=");
@@ -172,6 +187,7 @@ fn each_answer(text: &mut Text, answers: &[Answer])
     requires room { 14 * length answers.now ≤ text.old.spare }
     ensures bytes { text.new.bytes ≡ text.old.bytes ++ each_behind 32 (map answer_word answers.now) }
     ensures spare { text.old.spare ≤ text.new.spare + 14 * length answers.now }
+    ensures kept { KeepsRoom text.old text.new }
 {
     for one in answers {
         answer(text, one);
@@ -184,6 +200,7 @@ fn answers(text: &mut Text, answers: &[Answer])
     requires room { 210 ≤ text.old.spare }
     ensures bytes { text.new.bytes ≡ text.old.bytes ++ each_behind 32 (answers_words answers.now) }
     ensures spare { text.old.spare ≤ text.new.spare + 210 }
+    ensures kept { KeepsRoom text.old text.new }
 {
     if answers.is_empty() {
         word(text, "none");
@@ -197,6 +214,7 @@ fn source(text: &mut Text, source: Source)
     requires room { 7 ≤ text.old.spare }
     ensures bytes { text.new.bytes ≡ text.old.bytes ++ 32 ∷ source_word source }
     ensures spare { text.old.spare ≤ text.new.spare + 7 }
+    ensures kept { KeepsRoom text.old text.new }
 {
     match source {
         Source::Nobody => word(text, "none"),
@@ -212,6 +230,7 @@ fn boards(text: &mut Text, lead: u8, boards: &[BoardNo])
     requires room { 3 * length boards.now ≤ text.old.spare }
     ensures bytes { text.new.bytes ≡ text.old.bytes ++ led lead boards.now }
     ensures spare { text.old.spare ≤ text.new.spare + 3 * length boards.now }
+    ensures kept { KeepsRoom text.old text.new }
 {
     let mut lead = lead;
     for board in boards {
@@ -226,6 +245,7 @@ fn led_board(text: &mut Text, lead: u8, board: BoardNo)
     requires room { 3 ≤ text.old.spare }
     ensures bytes { text.new.bytes ≡ text.old.bytes ++ lead ∷ decimal board }
     ensures spare { text.old.spare ≤ text.new.spare + 3 }
+    ensures kept { KeepsRoom text.old text.new }
 {
     text.push(&[lead]);
     digits(text, u64::from(board.0));
@@ -237,6 +257,7 @@ fn takers(text: &mut Text, takers: &Takers)
     requires room { 55 ≤ text.old.spare }
     ensures bytes { text.new.bytes ≡ text.old.bytes ++ 32 ∷ takers_text (taker_parts takers.now.memory takers.now.boards) }
     ensures spare { text.old.spare ≤ text.new.spare + 55 }
+    ensures kept { KeepsRoom text.old text.new }
 {
     let places = takers.boards.items();
     if takers.memory {
@@ -255,6 +276,7 @@ fn access(text: &mut Text, access: &Access)
     requires room { 23 ≤ text.old.spare }
     ensures bytes { text.new.bytes ≡ text.old.bytes ++ each_behind 32 (access_words access.now) }
     ensures spare { text.old.spare ≤ text.new.spare + 23 }
+    ensures kept { KeepsRoom text.old text.new }
 {
     match access {
         Access::Read(addr) => {
@@ -282,6 +304,7 @@ fn reply(text: &mut Text, reply: Option<u32>)
     requires { 13 ≤ text.old.spare }
     ensures bytes { text.new.bytes ≡ text.old.bytes ++ each_behind 32 (reply_words reply) }
     ensures spare { text.old.spare ≤ text.new.spare + 13 }
+    ensures kept { KeepsRoom text.old text.new }
 {
     match reply {
         Some(found) => {
@@ -297,6 +320,7 @@ fn done(text: &mut Text, done: &Done)
     requires room { 36 ≤ text.old.spare }
     ensures bytes { text.new.bytes ≡ text.old.bytes ++ each_behind 32 (done_words done.now) }
     ensures spare { text.old.spare ≤ text.new.spare + 36 }
+    ensures kept { KeepsRoom text.old text.new }
 {
     access(text, &done.access);
     reply(text, done.reply);
@@ -308,6 +332,7 @@ fn carried(text: &mut Text, carried: &Option<Done>)
     requires room { 36 ≤ text.old.spare }
     ensures bytes { text.new.bytes ≡ text.old.bytes ++ each_behind 32 (carried_words carried.now) }
     ensures spare { text.old.spare ≤ text.new.spare + 36 }
+    ensures kept { KeepsRoom text.old text.new }
 {
     match carried {
         Some(all) => done(text, all),
@@ -321,6 +346,7 @@ fn local(text: &mut Text, place: BoardNo, before: State, after: State, all: &Don
     requires room { 252 ≤ text.old.spare }
     ensures bytes { text.new.bytes ≡ text.old.bytes ++ spaced (event_words (Event.Local place before after all.now)) }
     ensures spare { text.old.spare ≤ text.new.spare + 252 }
+    ensures kept { KeepsRoom text.old text.new }
 {
     text.push(b"local");
     board(text, place);
@@ -337,6 +363,7 @@ fn dropped(text: &mut Text, place: BoardNo, line: LineNo, before: State)
     requires room { 252 ≤ text.old.spare }
     ensures bytes { text.new.bytes ≡ text.old.bytes ++ spaced (event_words (Event.Drop place line before)) }
     ensures spare { text.old.spare ≤ text.new.spare + 252 }
+    ensures kept { KeepsRoom text.old text.new }
 {
     text.push(b"drop");
     board(text, place);
@@ -351,6 +378,7 @@ fn raise(text: &mut Text, place: BoardNo)
     requires room { 252 ≤ text.old.spare }
     ensures bytes { text.new.bytes ≡ text.old.bytes ++ spaced (event_words (Event.Raise place)) }
     ensures spare { text.old.spare ≤ text.new.spare + 252 }
+    ensures kept { KeepsRoom text.old text.new }
 {
     text.push(b"raise");
     board(text, place);
@@ -362,6 +390,7 @@ fn settled(text: &mut Text, lines: u16)
     requires room { 4 ≤ text.old.spare }
     ensures bytes { text.new.bytes ≡ text.old.bytes ++ 32 ∷ decimal lines }
     ensures spare { text.old.spare ≤ text.new.spare + 4 }
+    ensures kept { KeepsRoom text.old text.new }
 {
     number(text, u64::from(lines));
 }
@@ -372,6 +401,7 @@ fn round_count(text: &mut Text, rounds: u8)
     requires room { 2 ≤ text.old.spare }
     ensures bytes { text.new.bytes ≡ text.old.bytes ++ 32 ∷ decimal rounds }
     ensures spare { text.old.spare ≤ text.new.spare + 2 }
+    ensures kept { KeepsRoom text.old text.new }
 {
     number(text, u64::from(rounds));
 }
@@ -383,6 +413,7 @@ fn grant(text: &mut Text, by: BoardNo, winner: BoardNo, lines: u16, rounds: u8)
     requires room { 252 ≤ text.old.spare }
     ensures bytes { text.new.bytes ≡ text.old.bytes ++ spaced (event_words (Event.Grant by winner lines rounds)) }
     ensures spare { text.old.spare ≤ text.new.spare + 252 }
+    ensures kept { KeepsRoom text.old text.new }
 {
     text.push(b"grant");
     board(text, by);
@@ -402,6 +433,7 @@ fn heading(text: &mut Text, name: &str, master: BoardNo, event: BusEvent, line: 
     requires room { 24 ≤ text.old.spare }
     ensures bytes { text.new.bytes ≡ text.old.bytes ++ (name.now ++ each_behind 32 (decimal master ∷ bus_event_word event ∷ codes "line" ∷ decimal line ∷ [])) }
     ensures spare { text.old.spare ≤ text.new.spare + 24 }
+    ensures kept { KeepsRoom text.old text.new }
 {
     text.push(name.as_bytes());
     board(text, master);
@@ -415,6 +447,7 @@ fn connect(text: &mut Text, connected: &Connected)
     requires room { 252 ≤ text.old.spare }
     ensures bytes { text.new.bytes ≡ text.old.bytes ++ spaced (event_words (Event.Connect connected.now)) }
     ensures spare { text.old.spare ≤ text.new.spare + 252 }
+    ensures kept { KeepsRoom text.old text.new }
 {
     heading(
         text,
@@ -434,6 +467,7 @@ fn data(text: &mut Text, all: &Carried)
     requires room { 252 ≤ text.old.spare }
     ensures bytes { text.new.bytes ≡ text.old.bytes ++ spaced (event_words (Event.DataPhase all.now)) }
     ensures spare { text.old.spare ≤ text.new.spare + 252 }
+    ensures kept { KeepsRoom text.old text.new }
 {
     heading(text, "data", all.master, all.event, all.line);
     moved(text, all);
@@ -447,6 +481,7 @@ fn moved(text: &mut Text, all: &Carried)
     requires room { 72 ≤ text.old.spare }
     ensures bytes { text.new.bytes ≡ text.old.bytes ++ each_behind 32 (codes "from" ∷ source_word all.now.source ∷ codes "into" ∷ takers_text (taker_parts all.now.takers.memory all.now.takers.boards) ∷ []) }
     ensures spare { text.old.spare ≤ text.new.spare + 72 }
+    ensures kept { KeepsRoom text.old text.new }
 {
     word(text, "from");
     source(text, all.source);
@@ -462,6 +497,7 @@ fn ended(text: &mut Text, all: &Carried)
     requires room { 128 ≤ text.old.spare }
     ensures bytes { text.new.bytes ≡ text.old.bytes ++ each_behind 32 (codes "states" ∷ (map placed_word all.now.states ++ codes "done" ∷ carried_words all.now.done)) }
     ensures spare { text.old.spare ≤ text.new.spare + 128 }
+    ensures kept { KeepsRoom text.old text.new }
 {
     word(text, "states");
     states(text, all.states.items());
@@ -474,6 +510,7 @@ fn event_text(text: &mut Text, event: &Event)
     requires room { 252 ≤ text.old.spare }
     ensures bytes { text.new.bytes ≡ text.old.bytes ++ spaced (event_words event.now) }
     ensures spare { text.old.spare ≤ text.new.spare + 252 }
+    ensures kept { KeepsRoom text.old text.new }
 {
     match event {
         Event::Local {
@@ -506,6 +543,7 @@ pub fn write_event(event: &Event, text: &mut Text)
     ensures line { text.new.bytes ≡ text.old.bytes ++ line_of_event event.now }
     ensures short { length (line_of_event event.now) ≤ 253 }
     ensures spare { text.old.spare ≤ text.new.spare + 253 }
+    ensures kept { KeepsRoom text.old text.new }
     // No line begins another.
     ensures alone { (other : Event) (rest : List ℕ) → InRange other → line_of_event other ≡ line_of_event event.now ++ rest → (other ≡ event.now) × (rest ≡ []) }
 {

@@ -3,6 +3,7 @@ use Rattle.std.specs.List.{AllByRecursion}
 use Rattle.journal.specs.declared.answers.Answer.{Answer}
 use Rattle.trace_text.specs.Spelling.{answer_word}
 use Rattle.trace_text.specs.Ranges.{IsBoard}
+use Rattle.fb_text.specs.Written.{KeepsRoom}
 use Rattle.trace_text.specs.Writing.{each_behind}
 use Rattle.trace_text.proofs.writing.each_answer.Given as goal
 
@@ -12,4 +13,5 @@ invariant-loop-one l = record {
   bytes : l.text.bytes ++ each_behind 32 (map answer_word (drop l.one-index l.answers)) ≡ l.initial.text.bytes ++ each_behind 32 (map answer_word l.answers);
   room : 14 * length l.answers ≤ l.text.spare + 14 * l.one-index;
   spare : l.initial.text.spare ≤ l.text.spare + 14 * l.one-index;
+  kept : KeepsRoom l.initial.text l.text;
 }

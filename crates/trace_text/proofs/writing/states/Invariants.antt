@@ -3,6 +3,7 @@ use Rattle.std.specs.List.{AllByRecursion}
 use Rattle.moesi_state.specs.declared.State.{State}
 use Rattle.trace_text.specs.Spelling.{placed_word}
 use Rattle.trace_text.specs.Ranges.{IsBoard}
+use Rattle.fb_text.specs.Written.{KeepsRoom}
 use Rattle.trace_text.specs.Writing.{each_behind}
 use Rattle.trace_text.proofs.writing.states.Given as goal
 
@@ -12,4 +13,5 @@ invariant-loop-place l = record {
   bytes : l.text.bytes ++ each_behind 32 (map placed_word (drop l.place-index l.states)) ≡ l.initial.text.bytes ++ each_behind 32 (map placed_word l.states);
   room : 5 * length l.states ≤ l.text.spare + 5 * l.place-index;
   spare : l.initial.text.spare ≤ l.text.spare + 5 * l.place-index;
+  kept : KeepsRoom l.initial.text l.text;
 }

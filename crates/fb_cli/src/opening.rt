@@ -1,0 +1,91 @@
+//! Files that are opened and read, or refused.
+
+ghost use Rattle.std.specs.Prelude.{◌≡◌, ◌≤◌, ◌<◌, ◌^◌, length, IfOk, IfErr};
+ghost use Rattle.std.specs.List.{AllByRecursion};
+ghost use Rattle.fb_edge.specs.Outside.{Rose};
+ghost use Rattle.fb_cli.specs.Output.{limit_of};
+ghost use Rattle.fb_cli.specs.Opening.{Gives, OfFile, IsUnread, IsTooLong, TellsFault, AreSetup, AreTurns, RefusesSetup, RefusesTurns};
+
+use crate::answers::{Refusal, Reply, fault_answer, long_answer};
+use crate::role::Role;
+use fb_edge::{LoadFault, Shelf, load};
+use setup_text::{Setup, SetupFault, read_schedule, read_setup};
+use std::alloc::Global;
+
+/// The most bytes of a file.
+fn limit_of(role: Role) -> u64
+    ensures limit { result ≡ limit_of role }
+    ensures small { result < 2 ^ 31 }
+{
+    match role {
+        Role::Setup => 8_388_608,
+        Role::Schedule => 33_554_432,
+    }
+}
+
+/// The bytes of a file, if it is not too long.
+pub fn open<F: Shelf>(
+    alloc: Global,
+    role: Role,
+    name: &str,
+    shelf: &mut F,
+) -> Result<Vec<u8>, Reply>
+    ensures bytes { IfOk result (λ bytes. OfFile (F.file shelf.old) name.now (λ known. known ≡ bytes.items)) }
+    ensures within { IfOk result (λ bytes. length bytes.items ≤ limit_of role) }
+    ensures stops { IfErr result (Gives (λ answer. OfFile (F.file shelf.old) name.now (IsTooLong role answer)) (IsUnread role (Rose (F.faults shelf.old) (F.faults shelf.new)))) }
+    ensures later { F.faults shelf.old ≤ F.faults shelf.new }
+    ensures file { F.file shelf.new ≡ F.file shelf.old }
+{
+    match load(alloc, shelf, name, limit_of(role)) {
+        Ok(bytes) => Ok(bytes),
+        Err(LoadFault::Failed) => Err(Reply::Refused(Refusal::Unread(role))),
+        Err(LoadFault::NoMemory) => Err(Reply::Refused(Refusal::NoMemory)),
+        Err(LoadFault::TooLong { taken }) => Err(Reply::of(long_answer(alloc, role, taken))),
+    }
+}
+
+/// The reply where a text was not read.
+pub fn refuse(alloc: Global, role: Role, fault: SetupFault) -> Reply
+    ensures { Gives (TellsFault role fault) (λ other. ⊥) result }
+{
+    match fault {
+        SetupFault::Bad { line, kind } => Reply::of(fault_answer(alloc, role, line, kind)),
+        SetupFault::NoMemory => Reply::Refused(Refusal::NoMemory),
+    }
+}
+
+/// Opens a setup.
+pub fn open_setup<F: Shelf>(alloc: Global, name: &str, shelf: &mut F) -> Result<Setup, Reply>
+    ensures setup { IfOk result (λ setup. OfFile (F.file shelf.old) name.now (AreSetup setup)) }
+    ensures stops { IfErr result (Gives (λ answer. OfFile (F.file shelf.old) name.now (RefusesSetup answer)) (IsUnread Role.Setup (Rose (F.faults shelf.old) (F.faults shelf.new)))) }
+    ensures later { F.faults shelf.old ≤ F.faults shelf.new }
+    ensures file { F.file shelf.new ≡ F.file shelf.old }
+{
+    let bytes = open(alloc, Role::Setup, name, shelf)?;
+    match read_setup(alloc, &bytes) {
+        Ok(setup) => Ok(setup),
+        Err(fault) => Err(refuse(alloc, Role::Setup, fault)),
+    }
+}
+
+/// Opens a schedule of so many boards.
+pub fn open_schedule<F: Shelf>(
+    alloc: Global,
+    name: &str,
+    boards: u8,
+    shelf: &mut F,
+) -> Result<Vec<u8>, Reply>
+    requires low { 1 ≤ boards }
+    requires high { boards ≤ 16 }
+    ensures turns { IfOk result (λ turns. OfFile (F.file shelf.old) name.now (AreTurns boards turns.items)) }
+    ensures places { IfOk result (λ turns. AllByRecursion (λ p. (1 ≤ p) × (p ≤ boards)) turns.items) }
+    ensures stops { IfErr result (Gives (λ answer. OfFile (F.file shelf.old) name.now (RefusesTurns boards answer)) (IsUnread Role.Schedule (Rose (F.faults shelf.old) (F.faults shelf.new)))) }
+    ensures later { F.faults shelf.old ≤ F.faults shelf.new }
+    ensures file { F.file shelf.new ≡ F.file shelf.old }
+{
+    let bytes = open(alloc, Role::Schedule, name, shelf)?;
+    match read_schedule(alloc, &bytes, boards) {
+        Ok(turns) => Ok(turns),
+        Err(fault) => Err(refuse(alloc, Role::Schedule, fault)),
+    }
+}

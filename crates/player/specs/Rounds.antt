@@ -1,0 +1,12 @@
+-- Rounds, in which each board has a turn in order.
+use Rattle.std.specs.Prelude.{◌≡◌, ℕ, ◌+◌, ◌≤◌, length}
+use Rattle.bus_model.specs.Places.{repeated}
+use Rattle.bus_model.specs.Setup.{board_places}
+use Rattle.backplane.specs.Machine.{Machine}
+use Rattle.backplane.specs.Moves.{after_turns}
+
+-- A machine is what some rounds make of another, and each of them had an event.
+pub record AfterRounds (before now : Machine) : Type 0 where
+  pub rounds : ℕ
+  pub machine : now ≡ after_turns before (repeated rounds (board_places before.setup))
+  pub each : length before.journal + rounds ≤ length now.journal

@@ -1,0 +1,21 @@
+//! The text of a run, as it is printed: the line of each event, `end`, the replies to reads, the memory and the copies.
+//!
+//! ```text
+//! answer BOARD PLACE ADDR VALUE
+//! memory LINE W W W W
+//! copy BOARD LINE STATE W W W W
+//! ```
+//!
+//! The replies stand board by board in the order of their scripts, PLACE being the place of the access in the script from
+//! 1; then each line of memory; then the copies board by board in order of line. No call here takes memory.
+#![tactic(auto)]
+
+mod lines;
+mod printing;
+mod run;
+#[cfg(test)]
+mod tests;
+
+pub use lines::{write_copy, write_memory, write_reply};
+pub use printing::{print_events, print_replies};
+pub use run::{print_ending, print_run};

@@ -1,0 +1,88 @@
+//! The pieces of a run, printed line by line through one line of room.
+
+ghost use Rattle.std.specs.Prelude.{◌≡◌, ◌≤◌, ◌+◌, ◌++◌, [], length};
+ghost use Rattle.std.specs.List.{flat_map, AllByRecursion};
+ghost use Rattle.trace_text.specs.Ranges.{InRange};
+ghost use Rattle.trace_text.specs.Spelling.{line_of_event};
+ghost use Rattle.run_lines.specs.RunLines.{IsTyped};
+ghost use Rattle.run_text.specs.Lines.{entry_line};
+ghost use Rattle.run_text.specs.RunText.{events_text};
+ghost use Rattle.run_text.specs.Printing.{Printed, IsReady};
+
+use crate::lines::write_reply;
+use fb_edge::{PutFailed, Sink, put_all};
+use fb_text::Text;
+use flat_memory::Entry;
+use journal::Event;
+use run_lines::is_typed;
+use trace_text::write_event;
+
+/// Prints a line and empties it.
+pub(crate) fn print_line<K: Sink>(line: &mut Text, sink: &mut K) -> Result<(), PutFailed>
+    ensures printed { Printed (K.faults sink.old) (K.faults sink.new) (K.taken sink.old) (K.taken sink.new) line.old.bytes result }
+    ensures empty { line.new.bytes ≡ [] }
+    ensures room { line.new.spare ≡ line.old.spare + length line.old.bytes }
+{
+    let result = put_all(sink, line.bytes());
+    line.clear();
+    result
+}
+
+/// Prints the line of an event.
+fn print_event<K: Sink>(event: &Event, sink: &mut K, line: &mut Text) -> Result<(), PutFailed>
+    requires ready { IsReady line.old }
+    requires spelled { IsTyped event.now → InRange event.now }
+    ensures printed { Printed (K.faults sink.old) (K.faults sink.new) (K.taken sink.old) (K.taken sink.new) (line_of_event event.now) result }
+    ensures ready { IsReady line.new }
+{
+    is_typed(event);
+    write_event(event, line);
+    print_line(line, sink)
+}
+
+/// Prints the lines of events.
+pub fn print_events<K: Sink>(
+    events: &[Event],
+    sink: &mut K,
+    line: &mut Text,
+) -> Result<(), PutFailed>
+    requires ready { IsReady line.old }
+    requires spelled { AllByRecursion (λ event. IsTyped event → InRange event) events.now }
+    ensures printed { Printed (K.faults sink.old) (K.faults sink.new) (K.taken sink.old) (K.taken sink.new) (events_text events.now) result }
+    ensures ready { IsReady line.new }
+{
+    for event in events {
+        if let Err(failed) = print_event(event, sink, line) {
+            return Err(failed);
+        }
+    }
+    Ok(())
+}
+
+/// Prints the line of the reply to a completed access, where it is a read.
+fn print_reply<K: Sink>(entry: &Entry, sink: &mut K, line: &mut Text) -> Result<(), PutFailed>
+    requires ready { IsReady line.old }
+    ensures printed { Printed (K.faults sink.old) (K.faults sink.new) (K.taken sink.old) (K.taken sink.new) (entry_line entry.now) result }
+    ensures ready { IsReady line.new }
+{
+    write_reply(entry, line);
+    print_line(line, sink)
+}
+
+/// Prints the lines of the replies to completed accesses.
+pub fn print_replies<K: Sink>(
+    entries: &[Entry],
+    sink: &mut K,
+    line: &mut Text,
+) -> Result<(), PutFailed>
+    requires ready { IsReady line.old }
+    ensures printed { Printed (K.faults sink.old) (K.faults sink.new) (K.taken sink.old) (K.taken sink.new) (flat_map entry_line entries.now) result }
+    ensures ready { IsReady line.new }
+{
+    for entry in entries {
+        if let Err(failed) = print_reply(entry, sink, line) {
+            return Err(failed);
+        }
+    }
+    Ok(())
+}

@@ -1,0 +1,190 @@
+//! A run printed from its machine.
+
+ghost use Rattle.std.specs.Prelude.{◌≡◌, ◌≤◌, ◌<◌, ◌+◌, ◌++◌, ◌∷◌, [], length, codes};
+ghost use Rattle.fb_text.specs.Written.{line_bytes};
+ghost use Rattle.bus_model.specs.Setup.{line_count, board_places};
+ghost use Rattle.bus_model.specs.Entries.{entries};
+ghost use Rattle.backplane.specs.Machine.{configuration, IsBoard};
+ghost use Rattle.run_text.specs.RunText.{replies_text, memory_of, all_memory, copy_of, events_text, board_copies, all_copies, ending, run_text};
+ghost use Rattle.run_text.specs.Printing.{Printed, IsReady};
+
+use crate::lines::{write_copy, write_memory};
+use crate::printing::{print_events, print_line, print_replies};
+use backplane::Machine;
+use bus_signals::{BoardNo, LineNo};
+use fb_edge::{PutFailed, Sink};
+use fb_text::Text;
+use run_lines::runs_are_spelled;
+
+/// Prints the replies to the reads of the boards.
+fn print_all_replies<K: Sink>(
+    machine: &Machine,
+    sink: &mut K,
+    line: &mut Text,
+) -> Result<(), PutFailed>
+    requires ready { IsReady line.old }
+    ensures printed { Printed (K.faults sink.old) (K.faults sink.new) (K.taken sink.old) (K.taken sink.new) (replies_text (entries machine.now.journal) (board_places machine.now.setup)) result }
+    ensures ready { IsReady line.new }
+{
+    for place in 0..machine.boards() {
+        let replies = machine.replies(BoardNo(place + 1));
+        if let Err(failed) = print_replies(replies, sink, line) {
+            return Err(failed);
+        }
+    }
+    Ok(())
+}
+
+/// Prints a line of memory.
+fn print_memory_line<K: Sink>(
+    machine: &Machine,
+    number: u32,
+    sink: &mut K,
+    line: &mut Text,
+) -> Result<(), PutFailed>
+    requires ready { IsReady line.old }
+    requires number { number < line_count machine.now.setup }
+    ensures printed { Printed (K.faults sink.old) (K.faults sink.new) (K.taken sink.old) (K.taken sink.new) (memory_of (configuration machine.now) number) result }
+    ensures ready { IsReady line.new }
+{
+    let words = machine.memory_line(LineNo(number));
+    write_memory(LineNo(number), words, line);
+    print_line(line, sink)
+}
+
+/// Prints the memory.
+fn print_memory<K: Sink>(
+    machine: &Machine,
+    sink: &mut K,
+    line: &mut Text,
+) -> Result<(), PutFailed>
+    requires ready { IsReady line.old }
+    ensures printed { Printed (K.faults sink.old) (K.faults sink.new) (K.taken sink.old) (K.taken sink.new) (all_memory (configuration machine.now) (line_count machine.now.setup)) result }
+    ensures ready { IsReady line.new }
+{
+    for number in 0..machine.lines() {
+        if let Err(failed) = print_memory_line(machine, number, sink, line) {
+            return Err(failed);
+        }
+    }
+    Ok(())
+}
+
+/// Prints the copy that a board has of a line, if it has one.
+fn print_copy<K: Sink>(
+    machine: &Machine,
+    board: BoardNo,
+    number: u32,
+    sink: &mut K,
+    line: &mut Text,
+) -> Result<(), PutFailed>
+    requires ready { IsReady line.old }
+    requires board { IsBoard machine.now board }
+    ensures printed { Printed (K.faults sink.old) (K.faults sink.new) (K.taken sink.old) (K.taken sink.new) (copy_of (configuration machine.now) board number) result }
+    ensures ready { IsReady line.new }
+{
+    if let Some((state, words)) = machine.copy(board, LineNo(number)) {
+        write_copy(board, LineNo(number), state, words, line);
+    }
+    print_line(line, sink)
+}
+
+/// Prints the copies of a board.
+fn print_copies<K: Sink>(
+    machine: &Machine,
+    board: BoardNo,
+    sink: &mut K,
+    line: &mut Text,
+) -> Result<(), PutFailed>
+    requires ready { IsReady line.old }
+    requires board { IsBoard machine.now board }
+    ensures printed { Printed (K.faults sink.old) (K.faults sink.new) (K.taken sink.old) (K.taken sink.new) (board_copies (configuration machine.now) (line_count machine.now.setup) board) result }
+    ensures ready { IsReady line.new }
+{
+    for number in 0..machine.lines() {
+        if let Err(failed) = print_copy(machine, board, number, sink, line) {
+            return Err(failed);
+        }
+    }
+    Ok(())
+}
+
+/// Prints the copies of the boards.
+fn print_all_copies<K: Sink>(
+    machine: &Machine,
+    sink: &mut K,
+    line: &mut Text,
+) -> Result<(), PutFailed>
+    requires ready { IsReady line.old }
+    ensures printed { Printed (K.faults sink.old) (K.faults sink.new) (K.taken sink.old) (K.taken sink.new) (all_copies (configuration machine.now) (line_count machine.now.setup) (board_places machine.now.setup)) result }
+    ensures ready { IsReady line.new }
+{
+    for place in 0..machine.boards() {
+        if let Err(failed) = print_copies(machine, BoardNo(place + 1), sink, line) {
+            return Err(failed);
+        }
+    }
+    Ok(())
+}
+
+/// Prints how a run ended: the replies, the memory and the copies.
+pub fn print_ending<K: Sink>(
+    machine: &Machine,
+    sink: &mut K,
+    line: &mut Text,
+) -> Result<(), PutFailed>
+    requires ready { IsReady line.old }
+    ensures printed { Printed (K.faults sink.old) (K.faults sink.new) (K.taken sink.old) (K.taken sink.new) (ending machine.now.setup machine.now.journal (configuration machine.now)) result }
+    ensures ready { IsReady line.new }
+{
+    if let Err(failed) = print_all_replies(machine, sink, line) {
+        return Err(failed);
+    }
+    if let Err(failed) = print_memory(machine, sink, line) {
+        return Err(failed);
+    }
+    print_all_copies(machine, sink, line)
+}
+
+/// Prints the events of a machine.
+fn print_journal<K: Sink>(
+    machine: &Machine,
+    sink: &mut K,
+    line: &mut Text,
+) -> Result<(), PutFailed>
+    requires ready { IsReady line.old }
+    ensures printed { Printed (K.faults sink.old) (K.faults sink.new) (K.taken sink.old) (K.taken sink.new) (events_text machine.now.journal) result }
+    ensures ready { IsReady line.new }
+{
+    runs_are_spelled();
+    print_events(machine.journal(), sink, line)
+}
+
+/// Prints the line that stands behind the events.
+fn print_end<K: Sink>(sink: &mut K, line: &mut Text) -> Result<(), PutFailed>
+    requires ready { IsReady line.old }
+    ensures printed { Printed (K.faults sink.old) (K.faults sink.new) (K.taken sink.old) (K.taken sink.new) (line_bytes (codes "end" ∷ [])) result }
+    ensures ready { IsReady line.new }
+{
+    line.push(b"end\n");
+    print_line(line, sink)
+}
+
+/// Prints the run of a machine: its events, `end`, and the ending.
+pub fn print_run<K: Sink>(
+    machine: &Machine,
+    sink: &mut K,
+    line: &mut Text,
+) -> Result<(), PutFailed>
+    requires ready { IsReady line.old }
+    ensures printed { Printed (K.faults sink.old) (K.faults sink.new) (K.taken sink.old) (K.taken sink.new) (run_text machine.now.setup machine.now.journal (configuration machine.now)) result }
+    ensures ready { IsReady line.new }
+{
+    if let Err(failed) = print_journal(machine, sink, line) {
+        return Err(failed);
+    }
+    if let Err(failed) = print_end(sink, line) {
+        return Err(failed);
+    }
+    print_ending(machine, sink, line)
+}

@@ -1,0 +1,3 @@
+//! One line of each kind.
+
+use super::*;

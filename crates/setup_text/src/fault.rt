@@ -1,0 +1,63 @@
+//! What can be wrong in a text of tables, a setup or a schedule.
+
+use no_memory::NoMemory;
+
+/// What there is too much or too little of.
+#[derive(Clone, Copy, Debug, PartialEq, Eq)]
+pub enum LimitOf {
+    /// Lines of memory.
+    Lines,
+    Tables,
+    Boards,
+    /// Frames of one board.
+    Frames,
+    /// Accesses over all scripts.
+    Accesses,
+    /// Alternatives of one cell.
+    Alternatives,
+}
+
+/// The kind of a fault.
+#[derive(Clone, Copy, Debug, PartialEq, Eq)]
+pub enum SetupKind {
+    /// A word that cannot stand in its place, or none where one is wanted.
+    UnknownWord,
+    /// No number where one is wanted, one out of its range, or a place that is not the next.
+    Number,
+    /// An address that memory lacks.
+    Address,
+    /// An earlier table has the name.
+    TwiceName,
+    /// An earlier board has the number.
+    TwiceNumber,
+    /// The cell was given before.
+    TwiceCell,
+    /// The line gives its cell no alternative.
+    NoCell,
+    /// No table has the name.
+    NoTable,
+    /// The table of a plain board reaches a state other than I.
+    NoFrames,
+    /// Too many or too few, with how many there are.
+    Limit { of: LimitOf, count: u64 },
+    /// The text ends before its `end` line.
+    NoEnd,
+}
+
+/// Why a text was not read.
+#[derive(Clone, Copy, Debug, PartialEq, Eq)]
+pub enum SetupFault {
+    Bad { line: u32, kind: SetupKind },
+    NoMemory,
+}
+
+impl From<NoMemory> for SetupFault {
+    ghost use Rattle.std.specs.Prelude.{◌≡◌};
+    ghost use Rattle.setup_text.specs.declared.fault.SetupFault.TheVariants as faults;
+
+    ghost from_gives = { λ _ e. e ≡ faults.NoMemory };
+
+    fn from(_fault: NoMemory) -> SetupFault {
+        SetupFault::NoMemory
+    }
+}

@@ -1,0 +1,27 @@
+//! The texts of setups, of tables and of schedules.
+#![tactic(auto)]
+
+mod board_line;
+mod book;
+mod draft;
+mod fault;
+mod names;
+mod reading;
+mod schedule;
+mod table_lines;
+mod tables;
+mod words;
+mod writing;
+
+pub use book::read_book;
+pub use fault::{LimitOf, SetupFault, SetupKind};
+pub use no_memory::NoMemory;
+pub use reading::read_setup;
+pub use schedule::read_schedule;
+pub use setup::Setup;
+pub use writing::write_setup;
+
+#[cfg(test)]
+mod tests;
+#[cfg(test)]
+mod writing_tests;
