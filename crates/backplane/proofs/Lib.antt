@@ -16,3 +16,4 @@ pub mod Carrying
 pub mod Answering
 pub mod Turning
 pub mod Permitted
+pub mod Running
