@@ -102,10 +102,10 @@ module _ (parts : Parts) (setup : Setup) (events : List Event) (c : Configuratio
       let specs = ap length sound.shows.boards in
       are_others parts.rack setup c.rows t.line t.event t.master (other_holders setup c.rows t.master t.line) t.answers
       (all-in (IsOther parts.rack t.master) (other_holders setup c.rows t.master t.line) (λ b here.
-          let found = in-filter (λ board. not (board == t.master) && holds (state_at c.rows board t.line)) (board_places setup) b here in
-          let within = in-places setup.boards 1 b found.0 in
-          let low = within.0 in
-          let high = within.1 in
-          let other = (and_parts (not (b == t.master)) (holds (state_at c.rows b t.line)) found.1).0 in
-          (record { low = low; high = omega arith }, λ e. both_ways (b == t.master) (not-true (b == t.master) other) (eq-eqb b t.master e))))
+      let found = in-filter (λ board. not (board == t.master) && holds (state_at c.rows board t.line)) (board_places setup) b here in
+      let within = in-places setup.boards 1 b found.0 in
+      let low = within.0 in
+      let high = within.1 in
+      let other = (and_parts (not (b == t.master)) (holds (state_at c.rows b t.line)) found.1).0 in
+      (record { low = low; high = omega arith }, λ e. both_ways (b == t.master) (not-true (b == t.master) other) (eq-eqb b t.master e))))
       transaction.answers
