@@ -17,3 +17,4 @@ pub mod Answering
 pub mod Turning
 pub mod Permitted
 pub mod Listing
+pub mod Running
