@@ -16,3 +16,6 @@ pub mod Carrying
 pub mod Answering
 pub mod Turning
 pub mod Listing
+pub mod Stepping
+pub mod Filling
+pub mod Keeping
