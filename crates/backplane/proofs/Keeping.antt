@@ -1,5 +1,5 @@
 -- The histories keep each access that an event completes.
-use Rattle.std.proofs.Common.{◌≡◌, ℕ, zero, suc, ◌+◌, ◌<◌, ◌≤◌, Bool, true, false, cond, List, [], ◌∷◌, ◌++◌, map, length, refl, ap, sym, subst, ◌∙◌, arith, Option, Some, None, append-nil}
+use Rattle.std.proofs.Common.{◌≡◌, ℕ, zero, suc, ◌+◌, ◌-◌, ◌<◌, ◌≤◌, Bool, true, false, cond, List, [], ◌∷◌, ◌++◌, map, length, get_or, refl, ap, sym, subst, ◌∙◌, arith, Option, Some, None, append-nil}
 use Rattle.std.specs.Prelude.{slice_get, unwrap_or, filter, ◌==◌}
 use Rattle.std.proofs.lemmas.Bool.{eq-eqb, ne_eqb}
 use Rattle.std.proofs.lemmas.List.Elements.{filter-append}
@@ -136,3 +136,19 @@ history-high setup events c p h b keeps s part =
     let specs : length p.rack.specs ≡ length setup.boards = ap (λ (xs : List BoardSpec). length xs) s.boards in
     let rack = part.rack in
     omega (arith, there, specs, rack)
+
+script-index : (scripts : List (List Access)) (k : ℕ) → get_or scripts k [] ≡ unwrap_or (slice_get scripts k) []
+script-index [] k = refl
+script-index (x ∷ scripts) zero = refl
+script-index (x ∷ scripts) (suc k) = script-index scripts k
+
+-- The script of a board.
+pub script-is : (setup : Setup) (b : ℕ) → 1 ≤ b → get_or setup.scripts (b - 1) [] ≡ script_of setup b
+script-is setup zero low = absurd (omega arith)
+script-is setup (suc k) low = let same : suc k - 1 ≡ k = omega arith in rw same (script-index setup.scripts k)
+
+-- The access at the place that the parts keep.
+pub present-is : (setup : Setup) (c : Configuration) (p : Parts) (b place : ℕ) (script : List Access) (access : Option Access) → PartsShow setup c p → 1 ≤ b → at_place p.places.items b ≡ Some place
+    → script ≡ get_or setup.scripts (b - 1) [] → access ≡ slice_get script place → access ≡ present_access setup c.boards b
+present-is setup c p b place script access s low at is found =
+    found ∙ ap (λ (xs : List Access). slice_get xs place) (is ∙ script-is setup b low) ∙ ap (slice_get (script_of setup b)) (sym (place-shown setup c p b place s at))

@@ -19,3 +19,4 @@ pub mod Listing
 pub mod Stepping
 pub mod Filling
 pub mod Keeping
+pub mod Moving
