@@ -1,9 +1,10 @@
 -- The transaction that is connected, and its data phase.
-use Rattle.std.proofs.Common.{◌≡◌, ℕ, Bool, true, false, cond, List, refl, ap, sym, subst, ◌∙◌, Option, Some, None}
+use Rattle.std.proofs.Common.{◌≡◌, ℕ, ◌*◌, ◌≤◌, length, Bool, true, false, cond, List, refl, ap, sym, subst, ◌∙◌, Option, Some, None}
 use Rattle.std.specs.Prelude.{IsSome, is_some, ◌==◌}
 use Rattle.std.proofs.lemmas.Bool.{eqb-true, eq-eqb}
 use Rattle.bus_signals.specs.declared.Access.{Access}
-use Rattle.bus_model.specs.Setup.{Setup, WellFormed, AllInClass}
+use Rattle.bus_model.specs.Setup.{Setup, WellFormed, AllInClass, access_count}
+use Rattle.bus_model.specs.Entries.{entries, Legal}
 use Rattle.bus_model.specs.Events.{Event, DataPhase, Transaction, Carried}
 use Rattle.bus_model.specs.Configuration.{Configuration, Phase, Idle, Granted, Connected, present_access, is_connected}
 use Rattle.bus_model.specs.Carrying.{carried_of}
@@ -12,15 +13,16 @@ use Rattle.bus_model.specs.Steps.{Can}
 use Rattle.bus_model.specs.Turns.{Did, own_transaction, turn_for, access_turn}
 use Rattle.coherence.proofs.Progress.{board_there}
 use Rattle.coherence.proofs.Turns.{turns_are_steps}
+use Rattle.coherence.proofs.Replies.{every_history_is_legal}
 use Rattle.data_phase.specs.Seen.{carried_for}
 use Rattle.backplane.specs.declared.parts.Parts.{Parts}
 use Rattle.backplane.specs.Histories.{Histories}
-use Rattle.backplane.specs.Machine.{Machine, IsBoard, MayHappen, configuration}
+use Rattle.backplane.specs.Machine.{Machine, IsBoard, MayHappen, configuration, configuration_after}
 use Rattle.backplane.specs.Moves.{turn_of}
 use Rattle.backplane.specs.Parts.{PartsShow, phase_of, connection_in}
 use Rattle.backplane.specs.Standing.{Stands}
 use Rattle.backplane.proofs.Filling.{connected-sound}
-use Rattle.backplane.proofs.Stepping.{stands-sound}
+use Rattle.backplane.proofs.Stepping.{stands-sound, stands-bounded}
 
 connected-by : (phase : Phase) (t : Transaction) → connection_in phase ≡ Some t → phase ≡ Connected t
 connected-by Idle t e = cc
@@ -97,3 +99,11 @@ connected-turn m t b known is same =
 -- What a turn does may happen.
 pub turn-step : (m : Machine) (b : ℕ) (event : Event) → Known m → turn_of m b ≡ Did event → MayHappen m event
 turn-step m b event known e = turns_are_steps m.setup m.journal (configuration m) b event known.fits known.accepted known.sound e
+
+pub legal-of : (setup : Setup) (events : List Event) (capacity : ℕ) (p : Parts) (h : Histories) (now : Machine) → Stands setup events capacity p h → record { setup = setup; journal = events } ≡ now → Legal now.setup.memory (entries now.journal)
+legal-of setup events capacity p h now stands same =
+    subst (λ (m : Machine). Legal m.setup.memory (entries m.journal)) same (every_history_is_legal setup events (configuration_after setup events) stands.fits stands.accepted stands.run)
+
+pub bounded-of : (setup : Setup) (events : List Event) (capacity : ℕ) (p : Parts) (h : Histories) (now : Machine) → Stands setup events capacity p h → record { setup = setup; journal = events } ≡ now → length now.journal ≤ 8 * access_count now.setup
+bounded-of setup events capacity p h now stands same =
+    subst (λ (m : Machine). length m.journal ≤ 8 * access_count m.setup) same (stands-bounded setup events capacity p h stands)
