@@ -18,3 +18,7 @@ pub mod Turning
 pub mod Permitted
 pub mod Running
 pub mod Listing
+pub mod Stepping
+pub mod Filling
+pub mod Keeping
+pub mod Moving
