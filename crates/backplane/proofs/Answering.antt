@@ -1,14 +1,12 @@
 -- The answers of the boards, one board after another.
-use Rattle.std.proofs.Common.{Bool, List, [], arith, drop, false, length, refl, suc, sym, true, zero, ℕ, ap, ◌+◌, ◌<◌, ◌∙◌, ◌∷◌, ◌≡◌, ◌≤◌, ◌==◌, ◌⊎◌, inl, inr}
+use Rattle.std.proofs.Common.{List, [], arith, drop, false, length, refl, suc, sym, true, zero, ℕ, ap, ◌+◌, ◌<◌, ◌∙◌, ◌∷◌, ◌≡◌, ◌≤◌, ◌==◌, ◌⊎◌, inl, inr}
 use Rattle.std.proofs.lemmas.Bool.{cases_lt, eq-eqb, ne_eqb}
-use Rattle.std.specs.Prelude.{filter}
 use Rattle.bus_signals.specs.declared.BusEvent.{BusEvent}
 use Rattle.board.specs.Rack.{Rack, setup_of}
 use Rattle.bus_model.specs.Configuration.{Row}
 use Rattle.bus_model.specs.Events.{Answer, Transaction}
 use Rattle.bus_model.specs.Places.{places_from}
 use Rattle.bus_model.specs.Setup.{BoardSpec, Setup, board_places}
-use Rattle.connect_phase.specs.Answering.{is_other_holder}
 use Rattle.backplane.specs.Permits.{do_answers_fit, do_fit_among}
 
 drop_places : (k n : ℕ) (specs : List BoardSpec) → n < length specs → drop n (places_from k specs) ≡ (k + n) ∷ drop (suc n) (places_from k specs)
