@@ -12,7 +12,7 @@ use Rattle.fb_cli.specs.declared.answers.Reply.TheVariants.{Answered, Refused}
 use Rattle.fb_cli.specs.declared.role.Role.{Role}
 use Rattle.fb_cli.specs.declared.role.Role.TheVariants as roles
 use Rattle.fb_cli.specs.Output.{Output, limit_of, within, on_read, with_setup, fault_output, long_output}
-use Rattle.fb_cli.specs.Answers.{IsOutcome, CanPrint, IsSetupFile, answer_output}
+use Rattle.fb_cli.specs.Answers.{IsOutcome, CanPrint, Refuses, IsSetupFile, answer_output}
 
 -- A reply is an answer of this kind, or it tells of a file in such a role that was not read, or that memory ran out.
 abbrev pub Gives : (Answer → Type 0) → (Role → Type 0) → Reply → Type 0
@@ -20,6 +20,11 @@ Gives Wanted Failed (Answered answer) = Wanted answer × IsOutcome (answer_outpu
 Gives Wanted Failed (Refused NoRow) = ⊥
 Gives Wanted Failed (Refused (Unread role)) = Failed role
 Gives Wanted Failed (Refused NoMemory) = Unit {0}
+
+-- A reply with which a command stops: an answer that refuses, or a refusal.
+abbrev pub IsRefusal : Reply → Type 0
+IsRefusal (Answered answer) = Refuses answer
+IsRefusal (Refused refusal) = Unit {0}
 
 -- An answer, if there was memory for it.
 abbrev pub answered : {E : Type 0} → Result Answer E → Reply

@@ -9,6 +9,7 @@ ghost use Rattle.run_text.specs.Printing.{IsReady};
 ghost use Rattle.fb_cli.specs.Report.{is_accepted};
 ghost use Rattle.fb_cli.specs.Output.{played_output, run_output, run_output_of, scheduled_output};
 ghost use Rattle.fb_cli.specs.Answers.{answer_output, CanPrint};
+ghost use Rattle.fb_cli.specs.Headline.{RunsFile, RunsSetup};
 ghost use Rattle.fb_cli.specs.Opening.{Gives, IsUnread, OfFile, RunUnread};
 
 use crate::answers::{Answer, Refusal, Reply};
@@ -49,6 +50,7 @@ fn played(alloc: Global, setup: Setup, turns: &[u8]) -> Result<Answer, NoMemory>
     requires accepted { list_all is_accepted setup.tables ≡ true }
     requires places { AllByRecursion (λ p. (1 ≤ p) × (p ≤ length setup.boards)) turns.now }
     ensures output { IfOk result (λ answer. answer_output answer ≡ run_output_of setup (played setup turns.now)) }
+    ensures ran { IfOk result (λ answer. RunsSetup setup (Reply.Answered answer)) }
     ensures can { IfOk result CanPrint }
 {
     let mut machine = start(alloc, setup)?;
@@ -60,7 +62,8 @@ fn played(alloc: Global, setup: Setup, turns: &[u8]) -> Result<Answer, NoMemory>
 /// The run of a setup by turns, or the report where a table is not accepted.
 fn judged(alloc: Global, setup: Setup, turns: &[u8]) -> Reply
     requires places { AllByRecursion (λ p. (1 ≤ p) × (p ≤ length setup.boards)) turns.now }
-    ensures { Gives (λ answer. answer_output answer ≡ played_output setup turns.now) (λ role. ⊥) result }
+    ensures gives { Gives (λ answer. answer_output answer ≡ played_output setup turns.now) (λ role. ⊥) result }
+    ensures ran { RunsSetup setup result }
 {
     match refusal(alloc, setup.tables()) {
         Ok(Some(answer)) => Reply::Answered(answer),
@@ -71,7 +74,8 @@ fn judged(alloc: Global, setup: Setup, turns: &[u8]) -> Reply
 
 /// The run of a setup by the schedule of a file.
 fn scheduled<F: Shelf>(alloc: Global, setup: Setup, name: &str, shelf: &mut F) -> Reply
-    ensures { Gives (λ answer. OfFile (F.file shelf.old) name.now (λ bytes. answer_output answer ≡ scheduled_output bytes setup)) (IsUnread Role.Schedule (Rose (F.faults shelf.old) (F.faults shelf.new))) result }
+    ensures gives { Gives (λ answer. OfFile (F.file shelf.old) name.now (λ bytes. answer_output answer ≡ scheduled_output bytes setup)) (IsUnread Role.Schedule (Rose (F.faults shelf.old) (F.faults shelf.new))) result }
+    ensures ran { RunsSetup setup result }
 {
     match open_schedule(alloc, name, setup.boards().len() as u8, shelf) {
         Ok(turns) => judged(alloc, setup, &turns),
@@ -81,7 +85,8 @@ fn scheduled<F: Shelf>(alloc: Global, setup: Setup, name: &str, shelf: &mut F) -
 
 /// Does `run`.
 pub fn run<F: Shelf>(alloc: Global, name: &str, schedule: &str, shelf: &mut F) -> Reply
-    ensures { Gives (λ answer. IfSome (F.file shelf.old) (λ bytes_of. answer_output answer ≡ run_output (bytes_of name.now) (bytes_of schedule.now))) (RunUnread (F.file shelf.old) name.now (Rose (F.faults shelf.old) (F.faults shelf.new))) result }
+    ensures ran { RunsFile (F.file shelf.old) name.now result }
+    ensures gives { Gives (λ answer. IfSome (F.file shelf.old) (λ bytes_of. answer_output answer ≡ run_output (bytes_of name.now) (bytes_of schedule.now))) (RunUnread (F.file shelf.old) name.now (Rose (F.faults shelf.old) (F.faults shelf.new))) result }
 {
     match open_setup(alloc, name, shelf) {
         Ok(setup) => scheduled(alloc, setup, schedule, shelf),
