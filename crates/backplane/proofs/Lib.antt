@@ -20,3 +20,4 @@ pub mod Stepping
 pub mod Filling
 pub mod Keeping
 pub mod Moving
+pub mod Reading
