@@ -4,14 +4,16 @@ use Rattle.std.specs.Prelude.{find, is_some, IsSome}
 use Rattle.std.proofs.lemmas.Bool.{eq-eqb, both_ways, cases_lt}
 use Rattle.bus_signals.specs.declared.Access.{Access}
 use Rattle.bus_model.specs.Places.{places_from}
-use Rattle.bus_model.specs.Setup.{Setup, WellFormed, line_count, board_places}
+use Rattle.bus_model.specs.Setup.{Setup, BoardSpec, WellFormed, line_count, board_places}
 use Rattle.bus_model.specs.Configuration.{Configuration, Progress, Phase, Idle, Granted, Connected, lines_of_words, present_access, is_granted, is_connected}
 use Rattle.bus_model.specs.Events.{Transaction}
 use Rattle.bus_model.specs.Entries.{Entry, entries, entries_of}
 use Rattle.bus_model.specs.Runs.{Complete}
 use Rattle.bus_model.specs.Soundness.{Sound, RequestSound}
 use Rattle.coherence.proofs.Progress.{board_there}
+use Rattle.backplane.specs.declared.parts.Parts.{Parts}
 use Rattle.backplane.specs.Machine.{Machine, configuration}
+use Rattle.backplane.specs.Parts.{PartsShow}
 
 -- The first board at which a test passes.
 pub find-first : {X : Type 0} (test : ℕ → Bool) (k n : ℕ) (xs : List X) → ((j : ℕ) → j < n → test (k + j) ≡ false) → test (k + n) ≡ true → n < length xs → find test (places_from k xs) ≡ Some (k + n)
@@ -103,3 +105,19 @@ lines-are setup c words lines long shows four =
     length-lines (a ∷ b ∷ d ∷ []) n e = absurd (omega (arith, e))
     length-lines (a ∷ b ∷ d ∷ f ∷ rest) zero e = absurd (omega (arith, e))
     length-lines (a ∷ b ∷ d ∷ f ∷ rest) (suc n) e = ap suc (length-lines rest n (omega (arith, e)))
+
+-- The first board that has more to do.
+pub first-unfinished : (m : Machine) (n : ℕ) → DoneBefore m n → n < length m.setup.boards → test_of m (n + 1) ≡ true → Some (n + 1) ≡ find (test_of m) (board_places m.setup)
+first-unfinished m n before within here =
+    let e : n + 1 ≡ 1 + n = omega arith in
+    ap (λ (k : ℕ). Some k) e ∙ sym (find-first (test_of m) 1 n m.setup.boards before (ap (test_of m) (sym e) ∙ here) within)
+
+pub none-unfinished : (m : Machine) (n : ℕ) → DoneBefore m n → length m.setup.boards ≤ n → None ≡ find (test_of m) (board_places m.setup)
+none-unfinished m n before all = sym (find-no (test_of m) 1 m.setup.boards (λ j l. before j (omega arith)))
+
+pub all-before : (m : Machine) (n : ℕ) → DoneBefore m n → length m.setup.boards ≤ n → DoneBefore m (length m.setup.boards)
+all-before m n before all j l = before j (omega arith)
+
+-- As many boards as the rack has.
+pub rack-boards : (inside now : Machine) (p : Parts) → inside ≡ now → PartsShow inside.setup (configuration inside) p → length p.rack.specs ≡ length now.setup.boards
+rack-boards inside now p same s = ap (λ (xs : List BoardSpec). length xs) s.boards ∙ ap (λ (m : Machine). length m.setup.boards) same
