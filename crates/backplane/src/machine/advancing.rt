@@ -18,13 +18,6 @@ use crate::plan::Plan;
 use bus_signals::BoardNo;
 
 impl Machine {
-    /// Whether a board is the master of the transaction that is connected.
-    fn is_connected(&self, board: BoardNo) -> bool
-        ensures { result ≡ is_connected (configuration self.now).phase board }
-    {
-        self.parts.phase.is_connected(board)
-    }
-
     /// What a board that is not connected is to do in its turn.
     fn plan(&self, board: BoardNo) -> Plan
         requires board { IsBoard self.now board }
@@ -104,7 +97,7 @@ impl Machine {
         ensures machine { self.new ≡ moved self.old (turn_of self.old board) }
         ensures step { (event : Event) → turn_of self.old board ≡ Did event → MayHappen self.old event }
     {
-        if self.is_connected(board) {
+        if self.parts.phase.is_connected(board) {
             self.do_data();
             return Moved::Did;
         }
