@@ -16,7 +16,6 @@ pub mod Carrying
 pub mod Answering
 pub mod Turning
 pub mod Permitted
-pub mod Running
 pub mod Listing
 pub mod Stepping
 pub mod Filling
