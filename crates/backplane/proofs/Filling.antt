@@ -78,7 +78,7 @@ four-lines (a ∷ b ∷ d ∷ []) = omega arith
 four-lines (a ∷ b ∷ d ∷ e ∷ words) = let more = four-lines words in omega (arith, more)
 
 -- A line of the setup's memory is one of the memory that the parts keep.
-line-there : (setup : Setup) (events : List Event) (c : Configuration) (p : Parts) (line : ℕ) → Sound setup events c → PartsShow setup c p → line < line_count setup → 4 * line < length p.memory
+pub line-there : (setup : Setup) (events : List Event) (c : Configuration) (p : Parts) (line : ℕ) → Sound setup events c → PartsShow setup c p → line < line_count setup → 4 * line < length p.memory
 line-there setup events c p line sound s within =
     let long : length (lines_of_words p.memory) ≡ line_count setup = ap (λ (ls : List (List ℕ)). length ls) s.memory ∙ sound.parts.memory in
     let four = four-lines p.memory in
