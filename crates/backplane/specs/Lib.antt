@@ -6,3 +6,4 @@ pub mod Rooms
 pub mod Histories
 pub mod Standing
 pub mod Assembling
+pub mod Permits

@@ -1,10 +1,10 @@
 -- What a turn of the model does to a machine, and what the caller is told of it.
-use Rattle.bus_model.specs.Turns.{Turn, Did, Waits, Finished, Why, LineHeld, BusTaken, turn}
+use Rattle.bus_model.specs.Turns.{Turn, Did, Waits, Finished, Why, LineHeld, BusTaken, turn, events_of_turns}
 use Rattle.bus_model.specs.Events.{Event}
 use Rattle.backplane.specs.declared.moved.Moved.{Moved}
 use Rattle.backplane.specs.declared.moved.Why.{Why as Cause}
 use Rattle.backplane.specs.Machine.{Machine, happened, configuration}
-use Rattle.std.specs.Prelude.{ℕ}
+use Rattle.std.specs.Prelude.{ℕ, List, ◌++◌}
 
 -- Why a board waits, as the caller is told.
 abbrev pub cause : Why → Cause
@@ -26,3 +26,13 @@ moved machine Finished = machine
 -- The turn of a board of a machine.
 abbrev pub turn_of : Machine → ℕ → Turn
 turn_of machine board = turn machine.setup (configuration machine) board
+
+-- The machine after turns of these boards, one after another.
+abbrev pub after_turns : Machine → List ℕ → Machine
+after_turns machine boards = record { setup = machine.setup; journal = machine.journal ++ events_of_turns machine.setup (configuration machine) boards }
+
+-- How many events a turn came to.
+abbrev pub events_told : Moved → ℕ
+events_told Moved.Did = 1
+events_told (Moved.Waits why) = 0
+events_told Moved.Finished = 0

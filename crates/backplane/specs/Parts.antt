@@ -48,8 +48,9 @@ abbrev pub PlacesFit : List ℕ → Type 0
 PlacesFit [] = Unit {0}
 PlacesFit (place ∷ rest) = (place < 2 ^ 31) × PlacesFit rest
 
--- No count is near the end of its type.
+-- There are few boards, and no count is near the end of its type.
 pub record CountsAreLow (parts : Parts) : Type 0 where
+  pub boards : length parts.rack.specs ≤ 16
   pub counts : CountsFit parts.rack.counts
   pub places : PlacesFit parts.places.items
 

@@ -12,7 +12,7 @@ use crate::histories::Histories;
 use crate::machine::Machine;
 use crate::parts::Parts;
 use crate::phase::Phase;
-use crate::setup::Setup;
+use setup::Setup;
 use arbiter::Requests;
 use board::Rack;
 use bus_signals::BoardNo;

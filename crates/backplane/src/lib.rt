@@ -6,11 +6,10 @@ mod histories;
 mod machine;
 mod moved;
 mod parts;
+mod permits;
 mod phase;
 mod plan;
-mod setup;
 
 pub use assembling::{AssembleFault, assemble};
-pub use machine::Machine;
+pub use machine::{Machine, NotARun};
 pub use moved::{Moved, Why};
-pub use setup::Setup;

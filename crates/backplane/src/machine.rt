@@ -6,13 +6,17 @@ ghost use Rattle.backplane.specs.Standing.{Stands};
 
 use crate::histories::Histories;
 use crate::parts::Parts;
-use crate::setup::Setup;
+use setup::Setup;
 use journal::Event;
 use std::marker::Model;
 
 mod advancing;
+mod applying;
 mod effects;
 mod reading;
+mod rounds;
+
+pub use applying::NotARun;
 
 /// A machine that runs a setup of accepted tables. Contracts see its setup and its journal; its configuration is the one
 /// that these two give.

@@ -1,6 +1,6 @@
 //! The parts of the machine that change, and what each event does to them.
 
-ghost use Rattle.std.specs.Prelude.{◌≡◌, ◌≤◌, ℕ, suc, List, Bool, Some, IsTrue, IsFalse, length};
+ghost use Rattle.std.specs.Prelude.{◌≡◌, ◌≤◌, if◌then◌else◌, ℕ, suc, List, Bool, Some, IsTrue, IsFalse, length};
 ghost use Rattle.moesi_state.specs.declared.State.{State};
 ghost use Rattle.moesi_state.specs.States.{holds};
 ghost use Rattle.bus_model.specs.Setup.{Setup};
@@ -49,13 +49,25 @@ fn served(access: Option<Access>, line: LineNo) -> Option<Access>
 }
 
 /// A board has completed one more access.
-fn complete(places: &mut [u32], board: BoardNo)
+fn complete(places: &mut Vec<u32>, board: BoardNo)
     requires low { 1 ≤ board }
-    requires high { board ≤ length places.old }
-    requires fit { PlacesFit places.old }
-    ensures { places.new ≡ change_place suc places.old board }
+    requires high { board ≤ length places.old.items }
+    requires fit { PlacesFit places.old.items }
+    ensures { places.new.items ≡ change_place suc places.old.items board }
 {
     places[board.0 as usize - 1] += 1;
+}
+
+/// A board has completed one more access, if it did.
+fn complete_if(completes: bool, places: &mut Vec<u32>, board: BoardNo)
+    requires low { 1 ≤ board }
+    requires high { board ≤ length places.old.items }
+    requires fit { PlacesFit places.old.items }
+    ensures { places.new.items ≡ (if completes then change_place suc places.old.items board else places.old.items) }
+{
+    if completes {
+        complete(places, board);
+    }
 }
 
 impl Parts {
@@ -150,9 +162,8 @@ impl Parts {
     {
         let access = served(access, connected.line);
         let carried = transfer(&mut self.rack, &mut self.memory, connected, access);
-        if carried.done.is_some() {
-            complete(&mut self.places, connected.master);
-        }
+        let completes = carried.done.is_some();
+        complete_if(completes, &mut self.places, connected.master);
         self.phase = Phase::Idle;
         carried
     }

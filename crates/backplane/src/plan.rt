@@ -1,12 +1,16 @@
 //! What a board is to do in its turn.
 
-ghost use Rattle.std.specs.Prelude.{◌≡◌};
+ghost use Rattle.std.specs.Prelude.{◌≡◌, List, true};
+ghost use Rattle.moesi_state.specs.Outcomes.{is_invalid};
 ghost use Rattle.bus_model.specs.Setup.{Setup};
 ghost use Rattle.bus_model.specs.Configuration.{Configuration, is_granted, is_raised};
 ghost use Rattle.bus_model.specs.Board.{is_clean};
 ghost use Rattle.bus_model.specs.Carrying.{reply_of};
 ghost use Rattle.bus_model.specs.Steps.{is_quiet};
-ghost use Rattle.bus_model.specs.Turns.{local_turn, request_turn, bus_turn, room_turn, transaction_turn, access_turn, own_transaction, victim_for};
+ghost use Rattle.bus_model.specs.Events.{Event};
+ghost use Rattle.bus_model.specs.Soundness.{Sound};
+ghost use Rattle.arbiter.specs.Raised.{has_raised};
+ghost use Rattle.bus_model.specs.Turns.{local_turn, grant_turn, request_turn, bus_turn, room_turn, transaction_turn, access_turn, own_transaction, victim_for};
 ghost use Rattle.backplane.specs.Parts.{PartsShow, IsPartOf};
 ghost use Rattle.backplane.specs.Plans.{planned};
 
@@ -66,11 +70,25 @@ pub fn reply_of(access: &Access, words: [u32; 4]) -> Option<u32>
     }
 }
 
+/// Whether a copy may be given up without the bus.
+fn is_clean(state: State) -> bool
+    ensures { result ≡ is_clean state }
+{
+    state.holds() && !state.owns()
+}
+
+/// Whether an outcome leaves no copy of the line, whatever the other boards answer.
+fn leaves_no_copy(outcome: Outcome) -> bool
+    ensures { result ≡ is_invalid outcome }
+{
+    matches!(outcome, Outcome::Fixed(State::I))
+}
+
 impl Parts {
     /// What a board is to do for its present access.
     pub fn plan(&self, board: BoardNo, access: &Access) -> Plan
         requires { IsPartOf self.now board }
-        ensures { (setup : Setup) (c : Configuration) → PartsShow setup c self.now → planned setup c board result ≡ access_turn setup c board access.now (own_transaction c.phase board) }
+        ensures { (setup : Setup) (events : List Event) (c : Configuration) → Sound setup events c → PartsShow setup c self.now → planned setup c board result ≡ access_turn setup c board access.now (own_transaction c.phase board) }
     {
         if self.phase.is_connected(board) {
             return Plan::Carry;
@@ -111,9 +129,9 @@ impl Parts {
         outcome: Outcome,
     ) -> Option<(LineNo, State)>
         requires { IsPartOf self.now board }
-        ensures { (setup : Setup) (c : Configuration) → PartsShow setup c self.now → result ≡ victim_for setup c board access.now outcome }
+        ensures { (setup : Setup) (events : List Event) (c : Configuration) → Sound setup events c → PartsShow setup c self.now → result ≡ victim_for setup c board access.now outcome }
     {
-        if outcome == Outcome::Fixed(State::I) {
+        if leaves_no_copy(outcome) {
             return None;
         }
         match self.rack.victim(board, access.addr().line()) {
@@ -131,20 +149,20 @@ impl Parts {
         outcome: Outcome,
     ) -> Plan
         requires { IsPartOf self.now board }
-        ensures { (setup : Setup) (c : Configuration) → PartsShow setup c self.now → planned setup c board result ≡ transaction_turn setup c board access.now event outcome (victim_for setup c board access.now outcome) }
+        ensures { (setup : Setup) (events : List Event) (c : Configuration) → Sound setup events c → PartsShow setup c self.now → planned setup c board result ≡ transaction_turn setup c board access.now event outcome (victim_for setup c board access.now outcome) }
     {
         match self.victim_for(board, access, outcome) {
             None => self.plan_bus(board, access.addr().line(), event, outcome),
-            Some((line, state)) => self.plan_room(board, line, state),
+            Some(victim) => self.plan_room(board, victim.0, victim.1),
         }
     }
 
     /// What a board is to do with a victim: a clean one is dropped unless its line is held, and any other is flushed.
     fn plan_room(&self, board: BoardNo, line: LineNo, state: State) -> Plan
         requires { IsPartOf self.now board }
-        ensures { (setup : Setup) (c : Configuration) → PartsShow setup c self.now → planned setup c board result ≡ room_turn setup c board line state (is_clean state) }
+        ensures { (setup : Setup) (events : List Event) (c : Configuration) → Sound setup events c → PartsShow setup c self.now → planned setup c board result ≡ room_turn setup c board line state (is_clean state) }
     {
-        if !state.holds() || state.owns() {
+        if !is_clean(state) {
             return self.plan_bus(board, line, BusEvent::Flu, Outcome::Fixed(State::I));
         }
         match self.phase.held_by(board, line) {
@@ -159,7 +177,7 @@ impl Parts {
     /// What a board is to do for a transaction: it connects it where the bus is granted to it.
     fn plan_bus(&self, board: BoardNo, line: LineNo, event: BusEvent, outcome: Outcome) -> Plan
         requires { IsPartOf self.now board }
-        ensures { (setup : Setup) (c : Configuration) → PartsShow setup c self.now → planned setup c board result ≡ bus_turn setup c board line event outcome (is_granted c.phase board) }
+        ensures { (setup : Setup) (events : List Event) (c : Configuration) → Sound setup events c → PartsShow setup c self.now → planned setup c board result ≡ bus_turn setup c board line event outcome (is_granted c.phase board) }
     {
         if self.phase.is_granted(board) {
             return Plan::Connect {
@@ -174,7 +192,7 @@ impl Parts {
     /// What a board is to do for the bus: it raises a request, then grants the bus where it is idle, and else waits.
     fn plan_request(&self, board: BoardNo) -> Plan
         requires { IsPartOf self.now board }
-        ensures { (setup : Setup) (c : Configuration) → PartsShow setup c self.now → planned setup c board result ≡ request_turn setup c board (is_raised c.boards board) c.phase }
+        ensures { (setup : Setup) (events : List Event) (c : Configuration) → Sound setup events c → PartsShow setup c self.now → planned setup c board result ≡ request_turn setup c board (is_raised c.boards board) c.phase }
     {
         if !self.requests.raised(board) {
             return Plan::Raise;
@@ -184,12 +202,16 @@ impl Parts {
             Phase::Connected(connected) => Plan::Wait(Why::Bus {
                 master: connected.master,
             }),
-            Phase::Idle => self.plan_grant(),
+            Phase::Idle => self.plan_grant(board),
         }
     }
 
-    /// The grant of the bus.
-    fn plan_grant(&self) -> Plan {
+    /// The grant of the bus, in the turn of a board that has raised a request.
+    fn plan_grant(&self, board: BoardNo) -> Plan
+        requires board { IsPartOf self.now board }
+        requires raised { has_raised self.now.requests board ≡ true }
+        ensures { (setup : Setup) (events : List Event) (c : Configuration) → Sound setup events c → PartsShow setup c self.now → planned setup c board result ≡ grant_turn setup c board }
+    {
         match self.requests.contest() {
             Some(grant) => Plan::Grant {
                 winner: grant.winner,

@@ -1,3 +1,10 @@
-pub mod Writes
 pub mod Naming
 pub mod Drafts
+pub mod TableLines
+pub mod LineSteps
+pub mod Writes
+pub mod WrittenWords
+pub mod WrittenTables
+pub mod WrittenBoards
+pub mod WrittenRows
+pub mod WrittenSetup

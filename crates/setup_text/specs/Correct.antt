@@ -60,6 +60,10 @@ pub record IsSchedule (boards : ℕ) (bytes : List ℕ) (turns : List ℕ) : Typ
   pub text : items (text_places bytes) ≡ schedule_items spelled
   pub value : turns ≡ turns_of spelled
 
+-- Each turn is the place of one of so many boards.
+abbrev pub ArePlaces : ℕ → List ℕ → Type 0
+ArePlaces boards turns = AllByRecursion (λ p. (1 ≤ p) × (p ≤ boards)) turns
+
 -- A value was read, unless memory ran out.
 abbrev pub IsReadAs : {X Y : Type 0} → (X → Y) → Result X SetupFault → Y → Type 0
 IsReadAs view (Ok x) want = view x ≡ want

@@ -1,5 +1,5 @@
 -- A setup that was read so far.
-use Rattle.std.specs.Prelude.{◌≡◌, ◌≢◌, ℕ, ◌+◌, ◌-◌, ◌*◌, ◌^◌, ◌<◌, ◌≤◌, Bool, not, ◌||◌, List, [], ◌∷◌, ◌++◌, length, map, replicate, slice_set, slice_index_or, Option, Some, None, All, AllPairs, if◌then◌else◌}
+use Rattle.std.specs.Prelude.{◌≡◌, ◌≢◌, ℕ, ◌+◌, ◌-◌, ◌*◌, ◌^◌, ◌<◌, ◌≤◌, Bool, true, not, ◌||◌, List, [], ◌∷◌, ◌++◌, length, map, replicate, slice_set, slice_index_or, Option, Some, None, All, AllPairs, if◌then◌else◌}
 use Rattle.std.specs.Option.{option_map}
 use Rattle.std.specs.Str.{bytes_eq}
 use Rattle.bus_signals.specs.declared.Access.{Access}
@@ -7,6 +7,8 @@ use Rattle.bus_signals.specs.Accesses.{address_of}
 use Rattle.moesi_state.specs.declared.State.TheVariants.{M, O, E, S}
 use Rattle.class_relation.specs.Tables.{Table, empty_table}
 use Rattle.table_check.specs.declared.boards.BoardSpec.{BoardSpec}
+use Rattle.table_check.specs.declared.boards.Shape.{Shape}
+use Rattle.table_check.specs.declared.boards.Shape.TheVariants.{Plain, Cached}
 use Rattle.table_check.specs.Reached.{is_reached}
 use Rattle.table_check.specs.Setup.{Setup, BoardFits, line_count, access_count}
 
@@ -78,3 +80,8 @@ pub record IsDraft (setup : Setup) : Type 0 where
 -- The place is that of a table, and says whether it reaches no state but I.
 abbrev pub IsKnown : List Table → ℕ × Bool → Type 0
 IsKnown tables p = (p.0 < length tables) × (p.1 ≡ stays_invalid (slice_index_or tables p.0 (empty_table [])))
+
+-- The cache of a board, of a table that reaches no state but I or not.
+abbrev pub IsShape : Bool → Shape → Type 0
+IsShape plain Plain = plain ≡ true
+IsShape plain (Cached sets ways) = (1 ≤ sets) × (1 ≤ ways) × (sets * ways ≤ 256)

@@ -4,6 +4,7 @@ use Rattle.std.specs.List.{list_any}
 use Rattle.std.specs.Str.{bytes_eq}
 use Rattle.fb_text.specs.declared.fault.TextKind.{TextKind}
 use Rattle.fb_text.specs.Lines.{is_empty}
+use Rattle.fb_text.specs.Number.{number_of}
 use Rattle.fb_text.specs.Places.{Words}
 use Rattle.fb_text.specs.Unread.{Unread, Line, first, number_in, number_within}
 use Rattle.bus_signals.specs.declared.Access.{Access}
@@ -338,10 +339,18 @@ book_at u = book_lines (whole []) u.lines u.end
 
 -- ---- schedules
 
+-- The place of one of so many boards.
+abbrev pub place_within : Result ℕ TextKind → Result ℕ SetupKind
+place_within (Ok n) = if nat_eq n 0 then Err Number else Ok n
+place_within (Err kind) = Err Number
+
+abbrev pub place_in : ℕ → List ℕ → Result ℕ SetupKind
+place_in boards w = place_within (number_within boards (number_of w))
+
 -- The places on the rest of a line, behind others.
 unfoldable pub places_on : ℕ → List ℕ → Words → Result (List ℕ) SetupKind
 places_on boards turns [] = Ok turns
-places_on boards turns (w ∷ ws) = number_from_one boards (w ∷ ws) >>= λ p. places_on boards (turns ++ p.0 ∷ []) ws
+places_on boards turns (w ∷ ws) = place_in boards w >>= λ p. places_on boards (turns ++ p ∷ []) ws
 
 unfoldable pub schedule_lines : ℕ → List ℕ → List Line → Result (List ℕ) Fault
 schedule_lines boards turns [] = Ok turns
@@ -363,9 +372,9 @@ GivesTable (Ok t) left read = read ≡ Ok (t, left)
 GivesTable (Err e) left read = FailsAs e read
 
 -- What a function returned, seen by mode, leads on to the lines that are left, unless memory ran out.
-abbrev pub GoesOn : {X : Type 0} → (X → Mode) → Result X SetupFault → Unread → Result Setup Fault → Type 0
-GoesOn mode (Ok x) left read = read ≡ lines_at (mode x) left.lines left.end
-GoesOn mode (Err e) left read = FailsAs e read
+abbrev pub GoesOn : {X M R : Type 0} → (M → List Line → ℕ → Result R Fault) → (X → M) → Result X SetupFault → Unread → Result R Fault → Type 0
+GoesOn lines mode (Ok x) left read = read ≡ lines (mode x) left.lines left.end
+GoesOn lines mode (Err e) left read = FailsAs e read
 
 -- The mode behind a line of a setup, which may be its last.
 abbrev pub mode_after : Setup → Bool → Mode
@@ -373,8 +382,8 @@ mode_after setup true = ended setup
 mode_after setup false = body setup
 
 -- What a line that was begun and the lines behind it give.
-abbrev pub then_lines : Unread → Result Mode SetupKind → Result Setup Fault
-then_lines u read = on_line u.line read >>= λ next. lines_at next u.lines u.end
+abbrev pub then_lines : {M R : Type 0} → (M → List Line → ℕ → Result R Fault) → Unread → Result M SetupKind → Result R Fault
+then_lines lines u read = on_line u.line read >>= λ next. lines next u.lines u.end
 
 -- What a reader returned, seen by view, is what reading gives, unless memory ran out.
 abbrev pub Answers : {X Y : Type 0} → (X → Y) → Result X SetupFault → Result Y Fault → Type 0

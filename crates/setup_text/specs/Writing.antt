@@ -1,12 +1,16 @@
 -- The one spelling in which a setup is written.
-use Rattle.std.specs.Prelude.{ℕ, ◌+◌, ◌*◌, nat_eq, List, [], ◌∷◌, length, map, slice_index_or, if◌then◌else◌}
+use Rattle.std.specs.Prelude.{◌≡◌, ℕ, ◌+◌, ◌*◌, nat_eq, List, [], ◌∷◌, ◌++◌, length, map, slice_index_or, if◌then◌else◌}
+use Rattle.std.specs.List.{AllByRecursion}
+use Rattle.fb_text.specs.Lines.{lines, words, contents}
+use Rattle.fb_text.specs.Unread.{unread, numbered}
+use Rattle.fb_text.specs.Places.{Item, items, lines_places}
 use Rattle.fb_text.specs.Written.{lines_bytes}
 use Rattle.bus_signals.specs.declared.Access.{Access}
-use Rattle.class_relation.specs.Tables.{Table, empty_table}
+use Rattle.class_relation.specs.Tables.{Table, empty_table, IsWhole}
 use Rattle.table_check.specs.declared.boards.BoardSpec.{BoardSpec}
-use Rattle.table_check.specs.Setup.{Setup, line_count, access_count}
+use Rattle.table_check.specs.Setup.{Setup, WellFormed, line_count, access_count}
 use Rattle.table_text.specs.Writing.{cells_of, table_room}
-use Rattle.setup_text.specs.Spelling.{TableText, BoardText, SetupText, setup_rows}
+use Rattle.setup_text.specs.Spelling.{TableText, BoardText, SetupText, setup_rows, ChooseFits, AccessFits}
 
 -- The words that are not 0, each with its address, in address order. The first word of the list has this address.
 abbrev pub words_from : ℕ → List ℕ → List (ℕ × ℕ)
@@ -50,3 +54,20 @@ written_setup s = lines_bytes (setup_rows (text_of s))
 -- The room that is taken for it: each line of numbers has at most 48 bytes, and each board line 176.
 abbrev pub setup_room : Setup → ℕ
 setup_room s = 32 + 48 * length s.memory + table_room * length s.tables + 176 * length s.boards + 48 * access_count s
+
+-- What holds of every setup of the program: it is within its limits, its tables are whole, and its numbers are in the ranges of their types.
+pub record IsWholeSetup (s : Setup) : Type 0 where
+  pub sound : WellFormed s
+  pub tables : AllByRecursion IsWhole s.tables
+  pub chooses : AllByRecursion (λ (b : BoardSpec). ChooseFits b.choose) s.boards
+  pub scripts : AllByRecursion (AllByRecursion AccessFits) s.scripts
+
+-- No line of these bytes has a word.
+abbrev pub HaveNoWords : List ℕ → Type 0
+HaveNoWords bytes = AllByRecursion (λ line. words (contents line) ≡ []) (lines bytes)
+
+-- The places behind a written setup which these bytes follow: those of the bytes.
+abbrev pub places_behind : Setup → List ℕ → List Item
+places_behind s rest =
+    let last = length (setup_rows (text_of s)) in
+    items (lines_places (numbered (last + 1) (lines rest)) (unread (written_setup s ++ rest)).end)

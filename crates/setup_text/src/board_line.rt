@@ -3,7 +3,7 @@
 ghost use Rattle.std.specs.Prelude.{◌≡◌, ◌<◌, ◌≤◌, ◌*◌, true, false, map, length, IfOk};
 ghost use Rattle.table_text.specs.Reading.{StaysOnLine};
 ghost use Rattle.table_check.specs.Setup.{BoardFits};
-ghost use Rattle.setup_text.specs.Drafts.{IsKnown};
+ghost use Rattle.setup_text.specs.Drafts.{IsKnown, IsShape};
 ghost use Rattle.setup_text.specs.Reading.{Gives, number_at, choose_at, frames_at, shape_at, place_at, has_number, board_number_at, table_name_at, board_front, board_table, board_back, board_line};
 
 use crate::draft::Draft;
@@ -40,6 +40,7 @@ fn choose(scan: &mut Scan) -> Result<Choose, SetupFault>
 #[tactic(auto, unfolding(crate::specs::Reading::frames_at))]
 fn frames(scan: &mut Scan) -> Result<Shape, SetupFault>
     ensures value { Gives (λ s. (s, scan.new.words)) result scan.old.line (frames_at scan.old.words) }
+    ensures fits { IfOk result (IsShape false) }
     ensures stays { StaysOnLine scan.old scan.new }
 {
     let sets = number_from_one(scan, 256)?;
@@ -58,6 +59,7 @@ fn frames(scan: &mut Scan) -> Result<Shape, SetupFault>
 #[tactic(auto, unfolding(crate::specs::Reading::shape_at))]
 fn shape(scan: &mut Scan, plain: bool) -> Result<Shape, SetupFault>
     ensures value { Gives (λ s. (s, scan.new.words)) result scan.old.line (shape_at plain scan.old.words) }
+    ensures fits { IfOk result (IsShape plain) }
     ensures stays { StaysOnLine scan.old scan.new }
 {
     let Some(word) = scan.next_word() else {

@@ -1,13 +1,13 @@
 //! Reading a text of tables.
 
-ghost use Rattle.std.specs.Prelude.{◌≡◌, ◌<◌, ◌≤◌, ◌^◌, List, length, IfOk, IfErr};
+ghost use Rattle.std.specs.Prelude.{◌≡◌, ◌<◌, ◌≤◌, ◌^◌, List, length, OnOk, IfOk, IfErr};
 ghost use Rattle.fb_text.specs.Places.{items, text_places};
 ghost use Rattle.fb_text.specs.Unread.{unread};
 ghost use Rattle.setup_text.specs.Spelling.{TableText, book_items};
 ghost use Rattle.setup_text.specs.Values.{tables_of};
 ghost use Rattle.setup_text.specs.Grammars.{book_grammar};
 ghost use Rattle.setup_text.specs.Correct.{BookStands, IsBook, IsReadAs, IsFirstFault};
-ghost use Rattle.setup_text.specs.Reading.{Answers, book_at};
+ghost use Rattle.setup_text.specs.Reading.{BookMode, Answers, GoesOn, then_lines, book_head, book_lines, book_at};
 
 use crate::fault::{SetupFault, SetupKind};
 use crate::table_lines::table;
@@ -18,7 +18,10 @@ use fb_text::Scan;
 use std::alloc::Global;
 
 /// One more table.
-fn table_lines(alloc: Global, scan: &mut Scan, tables: &mut Tables) -> Result<(), SetupFault> {
+fn table_lines(alloc: Global, scan: &mut Scan, tables: &mut Tables) -> Result<(), SetupFault>
+    ensures exact { GoesOn book_lines (λ _. BookMode.whole tables.new) result scan.new (then_lines book_lines scan.old (book_head tables.old scan.old.words)) }
+    ensures shorter { OnOk result (length scan.new.lines ≤ length scan.old.lines) }
+{
     this_word(scan, "table")?;
     let table = table(alloc, scan, tables)?;
     tables.push(table)?;

@@ -130,7 +130,6 @@ impl Draft {
         Ok(())
     }
 
-    #[tactic(auto, using(crate::proofs::Drafts::access_keeps, crate::proofs::Drafts::access_counted))]
     pub fn push_access(&mut self, access: Access) -> Result<(), NoMemory>
         requires some { 1 ≤ length self.old.boards }
         requires few { access_count self.old < 100000 }

@@ -23,3 +23,5 @@ pub use writing::write_setup;
 
 #[cfg(test)]
 mod tests;
+#[cfg(test)]
+mod writing_tests;

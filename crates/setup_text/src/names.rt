@@ -1,6 +1,6 @@
 //! The names of the tables of a text, in order of first appearance.
 
-ghost use Rattle.std.specs.Prelude.{◌≡◌, ◌∷◌, ◌++◌, [], None, OnOk};
+ghost use Rattle.std.specs.Prelude.{◌≡◌, ◌∷◌, ◌++◌, [], None, OnOk, OnErr};
 ghost use Rattle.std.specs.Option.{option_map};
 ghost use Rattle.setup_text.specs.Drafts.{found_name};
 
@@ -46,7 +46,8 @@ impl Names {
 
     pub fn push(&mut self, name: &[u8], stays_invalid: bool) -> Result<(), NoMemory>
         requires { found_name self.old name.now ≡ None }
-        ensures { OnOk result (self.new ≡ self.old ++ (name.now, stays_invalid) ∷ []) }
+        ensures ok { OnOk result (self.new ≡ self.old ++ (name.now, stays_invalid) ∷ []) }
+        ensures err { OnErr result (self.new ≡ self.old) }
     {
         let mut bytes = Vec::new(self.alloc);
         let Ok(()) = bytes.extend_from_slice(name) else {

@@ -1,6 +1,7 @@
 //! Reading a setup, line after line.
 
-ghost use Rattle.std.specs.Prelude.{◌≡◌, ◌<◌, ◌≤◌, ◌^◌, ◌∷◌, length, IfOk, IfErr, OnOk};
+ghost use Rattle.std.specs.Prelude.{◌≡◌, ◌<◌, ◌≤◌, ◌^◌, ◌∷◌, true, false, codes, length, IfOk, IfErr, OnOk};
+ghost use Rattle.std.specs.Str.{bytes_eq};
 ghost use Rattle.fb_text.specs.Places.{items, text_places};
 ghost use Rattle.fb_text.specs.Unread.{unread};
 ghost use Rattle.table_text.specs.Reading.{StaysOnLine};
@@ -8,7 +9,7 @@ ghost use Rattle.setup_text.specs.Spelling.{SetupText, setup_items};
 ghost use Rattle.setup_text.specs.Values.{setup_of};
 ghost use Rattle.setup_text.specs.Grammars.{setup_grammar};
 ghost use Rattle.setup_text.specs.Correct.{SetupStands, IsSetup, IsReadAs, IsFirstFault};
-ghost use Rattle.setup_text.specs.Reading.{Mode, Gives, Answers, GoesOn, mode_after, then_lines, word_line, table_head, board_added, access_read, end_line, body_line, setup_at};
+ghost use Rattle.setup_text.specs.Reading.{Mode, Gives, Answers, GoesOn, mode_after, then_lines, word_line, table_head, board_added, access_read, end_line, body_line, first_line, lines_at, setup_at};
 
 use crate::board_line::board;
 use crate::draft::Draft;
@@ -36,8 +37,8 @@ fn word_line(scan: &mut Scan, draft: &mut Draft) -> Result<(), SetupFault>
 
 /// A table, behind its first word.
 fn table_lines(alloc: Global, scan: &mut Scan, draft: &mut Draft) -> Result<(), SetupFault>
-    ensures exact { GoesOn (λ _. Mode.body draft.new) result scan.new (then_lines scan.old (table_head draft.old scan.old.words)) }
-    ensures shorter { length scan.new.lines ≤ length scan.old.lines }
+    ensures exact { GoesOn lines_at (λ _. Mode.body draft.new) result scan.new (then_lines lines_at scan.old (table_head draft.old scan.old.words)) }
+    ensures shorter { OnOk result (length scan.new.lines ≤ length scan.old.lines) }
 {
     if draft.boards().len() > 0 {
         return Err(bad(scan, SetupKind::UnknownWord));
@@ -88,42 +89,77 @@ fn end_line(scan: &mut Scan, draft: &Draft) -> Result<(), SetupFault>
     line_end(scan)
 }
 
+/// One line or one table, behind its first word, which is not `end`.
+#[tactic(auto, unfolding(crate::specs::Reading::body_line))]
+fn part(
+    alloc: Global,
+    scan: &mut Scan,
+    draft: &mut Draft,
+    word: &[u8],
+) -> Result<(), SetupFault>
+    requires { bytes_eq word.now (codes "end") ≡ false }
+    ensures exact { GoesOn lines_at (λ _. Mode.body draft.new) result scan.new (then_lines lines_at scan.old (body_line draft.old (word.now ∷ scan.old.words))) }
+    ensures shorter { OnOk result (length scan.new.lines ≤ length scan.old.lines) }
+{
+    if is(word, "word") {
+        return word_line(scan, draft);
+    }
+    if is(word, "table") {
+        return table_lines(alloc, scan, draft);
+    }
+    if is(word, "board") {
+        return board_line(scan, draft);
+    }
+    match local_event_of(word) {
+        Some(event) => access_line(scan, draft, event),
+        None => Err(bad(scan, SetupKind::UnknownWord)),
+    }
+}
+
 /// One line or one table, and whether it is the `end` line.
-fn line(alloc: Global, scan: &mut Scan, draft: &mut Draft) -> Result<bool, SetupFault> {
+#[tactic(auto, unfolding(crate::specs::Reading::body_line))]
+fn line(alloc: Global, scan: &mut Scan, draft: &mut Draft) -> Result<bool, SetupFault>
+    ensures exact { GoesOn lines_at (mode_after draft.new) result scan.new (then_lines lines_at scan.old (body_line draft.old scan.old.words)) }
+    ensures shorter { OnOk result (length scan.new.lines ≤ length scan.old.lines) }
+    ensures some { IfOk result (λ ended. ended ≡ true → 1 ≤ length draft.new.boards) }
+{
     let Some(word) = scan.next_word() else {
         return Err(bad(scan, SetupKind::UnknownWord));
     };
-    if is(word, "word") {
-        word_line(scan, draft)?;
-    } else if is(word, "table") {
-        table_lines(alloc, scan, draft)?;
-    } else if is(word, "board") {
-        board_line(scan, draft)?;
-    } else if is(word, "end") {
+    if is(word, "end") {
         end_line(scan, draft)?;
         return Ok(true);
-    } else if let Some(event) = local_event_of(word) {
-        access_line(scan, draft, event)?;
-    } else {
-        return Err(bad(scan, SetupKind::UnknownWord));
     }
+    part(alloc, scan, draft, word)?;
     Ok(false)
 }
 
 /// The `memory` line.
-fn memory_line(alloc: Global, scan: &mut Scan) -> Result<Draft, SetupFault> {
-    if !scan.next_line() {
-        return Err(bad(scan, SetupKind::NoEnd));
-    }
+#[tactic(auto, unfolding(crate::specs::Reading::first_line))]
+fn memory_rest(alloc: Global, scan: &mut Scan) -> Result<Draft, SetupFault>
+    ensures value { Gives (λ d. Mode.body d) result scan.old.line (first_line scan.old.words) }
+    ensures stays { StaysOnLine scan.old scan.new }
+{
     this_word(scan, "memory")?;
     let lines = memory_lines(scan)?;
     let draft = Draft::new(alloc, lines)?;
     Ok(draft)
 }
 
+/// The first line.
+fn memory_line(alloc: Global, scan: &mut Scan) -> Result<Draft, SetupFault>
+    ensures { GoesOn lines_at (λ d. Mode.body d) result scan.new (setup_at scan.old) }
+{
+    if !scan.next_line() {
+        return Err(bad(scan, SetupKind::NoEnd));
+    }
+    memory_rest(alloc, scan)
+}
+
 /// No line with words is left.
 fn text_end(scan: &mut Scan, draft: Draft) -> Result<Setup, SetupFault>
     requires { 1 ≤ length draft.boards }
+    ensures { Answers (λ s. s) result (lines_at (Mode.ended draft) scan.old.lines scan.old.end) }
 {
     if scan.next_line() {
         return Err(bad(scan, SetupKind::UnknownWord));

@@ -7,13 +7,23 @@ ghost use Rattle.table_text.specs.Reading.{StaysOnLine};
 ghost use Rattle.setup_text.specs.Spelling.{ScheduleFits, schedule_items};
 ghost use Rattle.setup_text.specs.Values.{turns_of};
 ghost use Rattle.setup_text.specs.Grammars.{schedule_grammar};
-ghost use Rattle.setup_text.specs.Correct.{IsSchedule, IsReadAs, IsFirstFault};
-ghost use Rattle.setup_text.specs.Reading.{Gives, Answers, places_on, schedule_at};
+ghost use Rattle.setup_text.specs.Correct.{IsSchedule, ArePlaces, IsReadAs, IsFirstFault};
+ghost use Rattle.setup_text.specs.Reading.{Gives, Answers, place_in, places_on, schedule_at};
 
 use crate::fault::{SetupFault, SetupKind};
 use crate::words::bad;
 use fb_text::{Scan, number_within};
 use std::alloc::Global;
+
+/// The place of one of so many boards.
+fn place(scan: &Scan, word: &[u8], boards: u8) -> Result<u8, SetupFault>
+    ensures { Gives (λ p. p) result scan.now.line (place_in boards word.now) }
+{
+    match number_within(Some(word), u64::from(boards)) {
+        Ok(place) if place > 0 => Ok(place as u8),
+        _ => Err(bad(scan, SetupKind::Number)),
+    }
+}
 
 /// The places on a line.
 fn places(scan: &mut Scan, boards: u8, turns: &mut Vec<u8>) -> Result<(), SetupFault>
@@ -21,13 +31,10 @@ fn places(scan: &mut Scan, boards: u8, turns: &mut Vec<u8>) -> Result<(), SetupF
     ensures stays { StaysOnLine scan.old scan.new }
 {
     while let Some(word) = scan.next_word() {
-        let place = match number_within(Some(word), u64::from(boards)) {
-            Ok(place) if place > 0 => place as u8,
-            _ => return Err(bad(scan, SetupKind::Number)),
-        };
-        if turns.push(place).is_err() {
+        let place = place(scan, word, boards)?;
+        let Ok(()) = turns.push(place) else {
             return Err(SetupFault::NoMemory);
-        }
+        };
     }
     Ok(())
 }
@@ -53,6 +60,8 @@ pub fn read_schedule(alloc: Global, bytes: &[u8], boards: u8) -> Result<Vec<u8>,
     ensures spelled { IfOk result (λ v. IsSchedule boards bytes.now v.items) }
     // What is spelled so is read.
     ensures only { (lines : List (List ℕ)) → ScheduleFits boards lines → items (text_places bytes.now) ≡ schedule_items lines → IsReadAs (λ v. v.items) result (turns_of lines) }
+    // Each is the place of a board.
+    ensures places { IfOk result (λ v. ArePlaces boards v.items) }
     // A fault is that of the first place at fault, with its line and its kind.
     ensures first { IfErr result (IsFirstFault (schedule_grammar boards) bytes.now) }
     // Which places or which fault it is.

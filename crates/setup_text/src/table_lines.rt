@@ -51,6 +51,7 @@ fn new_name(scan: &mut Scan, tables: &Tables) -> Result<Name, SetupFault>
 /// The rest of a table, behind its name.
 fn rest(alloc: Global, scan: &mut Scan, name: Name) -> Result<Table, SetupFault>
     ensures exact { GivesTable result scan.new (as_setup_fault (table_at name scan.old)) }
+    ensures shorter { OnOk result (length scan.new.lines ≤ length scan.old.lines) }
     ensures name { IfOk result (λ t. t.name ≡ name) }
 {
     match read_table(alloc, scan, name) {
@@ -67,6 +68,7 @@ fn rest(alloc: Global, scan: &mut Scan, name: Name) -> Result<Table, SetupFault>
 #[tactic(auto, unfolding(crate::specs::Reading::whole_table))]
 pub fn table(alloc: Global, scan: &mut Scan, tables: &Tables) -> Result<Table, SetupFault>
     ensures exact { GivesTable result scan.new (whole_table tables.now scan.old) }
+    ensures shorter { OnOk result (length scan.new.lines ≤ length scan.old.lines) }
     ensures few { OnOk result (length tables.now < 16) }
     ensures new { IfOk result (λ t. found_name (map named tables.now) t.name ≡ None) }
 {

@@ -1,7 +1,9 @@
 //! The tables of a text, in order, and their names.
 
-ghost use Rattle.std.specs.Prelude.{◌≡◌, ◌<◌, ◌≤◌, ◌++◌, ◌∷◌, [], map, length, None, OnOk};
-ghost use Rattle.setup_text.specs.Drafts.{stays_invalid, named, found_name, AreTables};
+ghost use Rattle.std.specs.Prelude.{◌≡◌, ◌||◌, ◌<◌, ◌≤◌, ◌++◌, ◌∷◌, [], map, length, None, IfSome, OnOk, OnErr};
+ghost use Rattle.moesi_state.specs.declared.State.TheVariants.{M, O, E, S};
+ghost use Rattle.table_check.specs.Reached.{is_reached};
+ghost use Rattle.setup_text.specs.Drafts.{stays_invalid, named, found_name, AreTables, IsKnown};
 
 use crate::names::Names;
 use class_relation::Table;
@@ -30,14 +32,28 @@ impl Model for Tables {
     ghost invariant = { λ t. AreTables t.tables.items × (t.names ≡ map named t.tables.items) };
 }
 
+#[tactic(auto, using(crate::proofs::Drafts::reach_test))]
+fn can_reach(table: &Table, state: State) -> bool
+    ensures { result ≡ is_reached table.now state }
+{
+    reaches(table, state)
+}
+
+/// Whether a table reaches a state other than I.
+fn is_cached(table: &Table) -> bool
+    ensures { result ≡ (is_reached table.now M || is_reached table.now O || is_reached table.now E || is_reached table.now S) }
+{
+    can_reach(table, State::M)
+        || can_reach(table, State::O)
+        || can_reach(table, State::E)
+        || can_reach(table, State::S)
+}
+
 /// Whether a table reaches no state but I.
 fn stays_invalid(table: &Table) -> bool
     ensures { result ≡ stays_invalid table.now }
 {
-    !(reaches(table, State::M)
-        || reaches(table, State::O)
-        || reaches(table, State::E)
-        || reaches(table, State::S))
+    !is_cached(table)
 }
 
 impl Tables {
@@ -60,7 +76,8 @@ impl Tables {
 
     /// The place of the table of a name, from 0, and whether it reaches no state but I.
     pub fn find(&self, name: &[u8]) -> Option<(u32, bool)>
-        ensures { result ≡ found_name (map named self.now) name.now }
+        ensures found { result ≡ found_name (map named self.now) name.now }
+        ensures known { IfSome result (IsKnown self.now) }
     {
         let (place, stays_invalid) = self.names.find(name)?;
         Some((place as u32, stays_invalid))
@@ -69,11 +86,12 @@ impl Tables {
     pub fn push(&mut self, table: Table) -> Result<(), NoMemory>
         requires few { length self.old < 16 }
         requires new { found_name (map named self.old) table.name ≡ None }
-        ensures { OnOk result (self.new ≡ self.old ++ table ∷ []) }
+        ensures ok { OnOk result (self.new ≡ self.old ++ table ∷ []) }
+        ensures err { OnErr result (self.new ≡ self.old) }
     {
-        if self.tables.reserve(1).is_err() {
+        let Ok(()) = self.tables.reserve(1) else {
             return Err(NoMemory);
-        }
+        };
         self.names
             .push(table.name().bytes(), stays_invalid(&table))?;
         self.tables.push(table).unwrap();

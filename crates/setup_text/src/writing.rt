@@ -1,14 +1,16 @@
 //! Writing a setup.
 
-ghost use Rattle.std.specs.Prelude.{◌≡◌, ◌<◌, ◌≤◌, ◌+◌, ◌*◌, ◌++◌, ◌∷◌, [], length, map, decimal, codes, slice_index_or, OnOk, OnErr};
+ghost use Rattle.std.specs.Prelude.{◌≡◌, ◌<◌, ◌≤◌, ◌+◌, ◌*◌, ◌++◌, ◌∷◌, [], ℕ, List, length, map, decimal, OnOk, OnErr};
 ghost use Rattle.std.specs.List.{flat_map, AllByRecursion};
+ghost use Rattle.fb_text.specs.Places.{items, lines_items, text_places};
 ghost use Rattle.fb_text.specs.Written.{after_words, line_bytes, lines_bytes};
 ghost use Rattle.class_relation.specs.Tables.{IsWhole};
 ghost use Rattle.table_check.specs.declared.boards.BoardSpec.{BoardSpec};
-ghost use Rattle.table_check.specs.Setup.{WellFormed, access_count};
+ghost use Rattle.table_check.specs.Setup.{access_count};
 ghost use Rattle.table_text.specs.Writing.{table_room};
-ghost use Rattle.setup_text.specs.Spelling.{memory_row, word_row, board_row, access_row, shape_words, choose_words, tables_rows, board_rows, AccessFits, ChooseFits};
-ghost use Rattle.setup_text.specs.Writing.{words_from, text_of_table, text_of_board, boards_from, setup_room, written_setup};
+ghost use Rattle.setup_text.specs.Spelling.{word_row, board_row, access_row, shape_words, choose_words, tables_rows, board_rows, setup_rows, AccessFits, ChooseFits};
+ghost use Rattle.setup_text.specs.Correct.{IsSetup};
+ghost use Rattle.setup_text.specs.Writing.{words_from, text_of_table, text_of_board, boards_from, text_of, written_setup, setup_room, IsWholeSetup, HaveNoWords, places_behind};
 
 use setup::Setup;
 use bus_signals::{Access, BoardNo};
@@ -211,8 +213,14 @@ fn room(setup: &Setup) -> usize
 }
 
 /// Appends the one written spelling of a setup.
+#[tactic(auto, using(crate::proofs::WrittenSetup::is_setup, crate::proofs::WrittenSetup::places_again))]
 pub fn write_setup(setup: &Setup, text: &mut Text) -> Result<(), NoMemory>
     ensures written { OnOk result (text.new.bytes ≡ text.old.bytes ++ written_setup setup.now) }
+    ensures whole { OnOk result (IsWholeSetup setup.now) }
+    // The spelling is a text of this setup, also where lines without words follow it.
+    ensures spelled { OnOk result ((rest : List ℕ) → HaveNoWords rest → IsSetup (written_setup setup.now ++ rest) setup.now) }
+    // Whatever follows the spelling, its lines are read as they were written, and what follows them as it stands.
+    ensures goes_on { OnOk result ((rest : List ℕ) → items (text_places (written_setup setup.now ++ rest)) ≡ lines_items (setup_rows (text_of setup.now)) ++ places_behind setup.now rest) }
     ensures err { OnErr result (text.new ≡ text.old) }
 {
     text.reserve(room(setup))?;

@@ -1,4 +1,4 @@
-use Rattle.std.proofs.Common.{◌++◌, List, ap, ◌∙◌, map, take, arith}
+use Rattle.std.proofs.Common.{arith}
 use Rattle.class_relation.specs.Tables.{IsWhole}
 use Rattle.setup_text.proofs.Writes.{table_more, all_more}
 use Rattle.setup_text.proofs.writing.all_tables.Goals as goal

@@ -1,0 +1,70 @@
+-- What a test of an event tells.
+use Rattle.std.specs.Prelude.{◌≡◌, ◌↔◌, ℕ, Bool, true, false, not, ◌&&◌, ◌==◌, List, [], ◌∷◌, Option, Some, IsTrue, length}
+use Rattle.bus_signals.specs.declared.Access.{Access}
+use Rattle.bus_signals.specs.declared.BusEvent.{BusEvent}
+use Rattle.class_relation.specs.Actions.{has_answer}
+use Rattle.class_relation.specs.Tables.{answers_of}
+use Rattle.bus_model.specs.Setup.{Setup, WellFormed, table_of, number_of}
+use Rattle.bus_model.specs.Events.{Event, Answer}
+use Rattle.bus_model.specs.Configuration.{Configuration, Row, present_access, state_at}
+use Rattle.bus_model.specs.Steps.{Can}
+use Rattle.bus_model.specs.Soundness.{Sound}
+use Rattle.settling.specs.Settling.{highest, settled_lines, settled_rounds}
+use Rattle.backplane.specs.declared.parts.Parts.{Parts}
+use Rattle.backplane.specs.Parts.{PartsShow, IsPartOf}
+use Rattle.arbiter.specs.Raised.{competitors, has_raised}
+use Rattle.board.specs.Rack.{setup_of}
+
+-- The parts show a sound configuration of a setup, to which these events have led.
+pub record SoundParts (parts : Parts) (setup : Setup) (events : List Event) (c : Configuration) : Type 0 where
+  pub fits : WellFormed setup
+  pub sound : Sound setup events c
+  pub shows : PartsShow setup c parts
+
+-- The rack, the requests and the places are of the same boards.
+pub record AreOfOneSetup (parts : Parts) : Type 0 where
+  pub requests : length parts.requests.numbers ≡ length parts.rack.specs
+  pub places : length parts.places.items ≡ length parts.rack.specs
+
+-- The answer tells whether an event may happen in the configuration that the parts show.
+abbrev pub Tells : Parts → Event → Bool → Type 0
+Tells parts event answer =
+    (setup : Setup) (events : List Event) (c : Configuration)
+    → SoundParts parts setup events c → (IsTrue answer ↔ Can setup c event)
+
+-- The same, where this is the present access of a board.
+abbrev pub TellsFor : Parts → ℕ → Access → Event → Bool → Type 0
+TellsFor parts board access event answer =
+    (setup : Setup) (events : List Event) (c : Configuration)
+    → SoundParts parts setup events c → present_access setup c.boards board ≡ Some access → (IsTrue answer ↔ Can setup c event)
+
+-- Whether an answer is one of a board, and an alternative of its cell for its state on the line and the event.
+abbrev pub does_answer_fit : Setup → List Row → ℕ → BusEvent → ℕ → Answer → Bool
+does_answer_fit setup rows line event board a =
+    a.board == board && has_answer (answers_of (table_of setup board) (state_at rows board line) event) a.action
+
+-- Whether each of these boards has one answer, in this order, and it is an alternative of the board's cell for its state on the line and the event.
+abbrev pub do_answers_fit : Setup → List Row → ℕ → BusEvent → List ℕ → List Answer → Bool
+do_answers_fit setup rows line event [] [] = true
+do_answers_fit setup rows line event (board ∷ boards) (a ∷ answers) =
+    let rest = do_answers_fit setup rows line event boards answers in
+    does_answer_fit setup rows line event board a && rest
+do_answers_fit setup rows line event [] (a ∷ answers) = false
+do_answers_fit setup rows line event (board ∷ boards) [] = false
+
+-- Whether a contest of these numbers, of which there is one at least, is won by a number, and settles to these lines in this many rounds.
+abbrev pub does_settle : List ℕ → ℕ → ℕ → ℕ → Bool
+does_settle [] number lines rounds = false
+does_settle (n ∷ rest) number lines rounds =
+    let numbers = n ∷ rest in
+    number == highest numbers && lines == settled_lines numbers && rounds == settled_rounds numbers
+
+-- A board is one of the machine's, and has raised a request.
+pub record HasRaised (parts : Parts) (board : ℕ) : Type 0 where
+  pub there : IsPartOf parts board
+  pub raised : IsTrue (has_raised parts.requests board)
+
+-- A board has raised a request, and the contest shows its number, with these lines and in this many rounds.
+pub record Wins (parts : Parts) (winner lines rounds : ℕ) : Type 0 where
+  pub raised : HasRaised parts winner
+  pub settles : IsTrue (does_settle (competitors parts.requests) (number_of (setup_of parts.rack) winner) lines rounds)
