@@ -1,4 +1,5 @@
 pub mod Cutting
+pub mod Feeds
 pub mod Long
 pub mod Fed
 pub mod Ended

@@ -1,5 +1,5 @@
 -- What a reader of lines finds.
-use Rattle.std.specs.Prelude.{◌≡◌, ℕ, Bool, false, List, Option, Some, None, if◌then◌else◌}
+use Rattle.std.specs.Prelude.{◌≡◌, ℕ, Bool, false, List, ◌∷◌, ◌++◌, Option, Some, None, if◌then◌else◌}
 use Rattle.std.specs.List.{AllByRecursion}
 use Rattle.fb_text.specs.Lines.{is_line_feed}
 use Rattle.journal.specs.declared.event.Event.{Event}
@@ -10,6 +10,11 @@ use Rattle.trace_lines.specs.Lines.{is_end_word, event_in}
 -- Bytes without a line feed.
 abbrev pub LacksFeed : List ℕ → Type 0
 LacksFeed bytes = AllByRecursion (λ b. is_line_feed b ≡ false) bytes
+
+-- A text is a line, its line feed, and the rest.
+pub record IsCut (text line rest : List ℕ) : Type 0 where
+  pub lacks : LacksFeed line
+  pub parts : text ≡ line ++ 10 ∷ rest
 
 -- An event that was read, or none.
 abbrev pub found_event : Option Event → Found

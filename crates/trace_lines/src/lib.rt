@@ -10,4 +10,4 @@ mod fault;
 mod reader;
 
 pub use fault::ReplayFault;
-pub use reader::{Found, Reader, cut, line_feed_in};
+pub use reader::{Found, Reader, first_line};

@@ -1,9 +1,9 @@
 //! Reading lines that come piece by piece.
 
-ghost use Rattle.std.specs.Prelude.{◌≡◌, ◌↔◌, ◌<◌, ◌+◌, ◌++◌, [], nat_le, length, take, drop, IsTrue, IsFalse};
+ghost use Rattle.std.specs.Prelude.{◌≡◌, ◌↔◌, ◌<◌, ◌+◌, ◌++◌, [], nat_le, MatchOption, length, take, drop, IsTrue, IsFalse};
 ghost use Rattle.std.specs.List.{position};
 ghost use Rattle.fb_text.specs.Lines.{is_line_feed};
-ghost use Rattle.trace_lines.specs.Reader.{LacksFeed, found_in};
+ghost use Rattle.trace_lines.specs.Reader.{LacksFeed, IsCut, found_in};
 ghost use Rattle.trace_lines.specs.Replaying.{longest};
 
 use arrayvec::ArrayVec;
@@ -37,15 +37,25 @@ impl Model for Reader {
     ghost invariant = { λ r. LacksFeed r.unfinished.items };
 }
 
+/// The first line and what stands behind its line feed, where there is a line feed.
+pub fn first_line(text: &[u8]) -> Option<(&[u8], &[u8])>
+    ensures { MatchOption result (LacksFeed text.now) (λ parts. IsCut text.now parts.0.now parts.1.now) }
+{
+    let Some(end) = line_feed_in(text) else {
+        return None;
+    };
+    Some(cut(text, end))
+}
+
 /// Where the first line feed stands.
-pub fn line_feed_in(text: &[u8]) -> Option<usize>
+fn line_feed_in(text: &[u8]) -> Option<usize>
     ensures { result ≡ position is_line_feed text.now }
 {
     text.iter().position(|b| *b == b'\n')
 }
 
 /// What stands before a place, and what stands behind it.
-pub fn cut(text: &[u8], at: usize) -> (&[u8], &[u8])
+fn cut(text: &[u8], at: usize) -> (&[u8], &[u8])
     requires { at < length text.now }
     ensures front { result.0.now ≡ take at text.now }
     ensures back { result.1.now ≡ drop (at + 1) text.now }
