@@ -1,10 +1,11 @@
 -- Where a piece leaves a replay.
-use Rattle.std.proofs.Common.{◌≡◌, ℕ, ◌+◌, Bool, true, false, List, [], ◌∷◌, ◌++◌, Option, Some, None, length, refl, sym, ap, ◌∙◌, arith, append_assoc}
+use Rattle.std.proofs.Common.{◌≡◌, ℕ, ◌+◌, Bool, true, false, List, [], ◌∷◌, ◌++◌, Option, Some, None, length, refl, sym, ap, ◌∙◌, arith, append_assoc, subst}
 use Rattle.std.specs.Prelude.{nat_le, if◌then◌else◌}
 use Rattle.bus_model.specs.Events.{Event}
 use Rattle.backplane.specs.Machine.{Machine}
 use Rattle.trace_lines.specs.declared.fault.ReplayFault.{ReplayFault}
 use Rattle.trace_lines.specs.declared.fault.ReplayFault.TheVariants.{Spelling}
+use Rattle.trace_lines.specs.declared.reader.Found.{Found}
 use Rattle.trace_lines.specs.declared.reader.Found.TheVariants as found
 use Rattle.trace_lines.specs.Lines.{Line, closed_line, last_line, lines_of, is_end_word, event_in}
 use Rattle.trace_lines.specs.Reader.{LacksFeed, found_event, found_in}
@@ -19,6 +20,9 @@ use Rattle.replayer.specs.Standing.{number_of_next, place_of, IsReading, at_foun
 pub lacks_append : (x y : List ℕ) → LacksFeed x → LacksFeed y → LacksFeed (x ++ y)
 lacks_append [] y h k = k
 lacks_append (b ∷ x) y h k = (h.0, lacks_append x y h.1 k)
+
+still : (place old : Place Machine) → place ≡ old → IsReading old → IsReading place
+still place old is reads = subst IsReading (sym is) reads
 
 -- The place behind a line with its line feed.
 found_closed : (machine : Machine) (number : ℕ) (bytes : List ℕ) → at_found machine number (found_in bytes) ≡ at_closed step machine number bytes (λ next. reading next (number + 1) [])
@@ -45,8 +49,13 @@ pub line_read : (old : Place Machine) (machine : Machine) (kept : List ℕ) (sta
     → place ≡ at_found machine (number_of_next machine) (found_in (kept ++ bytes)) → fed step place rest ≡ fed step old (bytes ++ 10 ∷ rest)
 line_read old machine kept Reading bytes rest place is reads k b same =
     closed_line_fed machine (number_of_next machine) kept bytes rest place k b same ∙ ap (λ (p : Place Machine). fed step p (bytes ++ 10 ∷ rest)) is
-line_read old machine kept Ended bytes rest place is reads k b same = let none : IsReading (place_of machine kept Ended) = rw is reads in absurd none
-line_read old machine kept (Refused fault) bytes rest place is reads k b same = let none : IsReading (place_of machine kept (Refused fault)) = rw is reads in absurd none
+line_read old machine kept Ended bytes rest place is reads k b same = absurd (still (place_of machine kept Ended) old is reads)
+line_read old machine kept (Refused fault) bytes rest place is reads k b same = absurd (still (place_of machine kept (Refused fault)) old is reads)
+
+-- What was found of a line leaves no bytes.
+pub line_found : (old new : Machine) (kept : List ℕ) (stage : Stage) (line wanted : Found) → kept ≡ [] → place_of new [] stage ≡ at_found old (number_of_next old) line → line ≡ wanted
+    → place_of new kept stage ≡ at_found old (number_of_next old) wanted
+line_found old new kept stage line wanted fresh is same = ap (λ (x : List ℕ). place_of new x stage) fresh ∙ (is ∙ ap (at_found old (number_of_next old)) same)
 
 -- ---- a line that goes on
 
@@ -66,8 +75,8 @@ line_kept old machine kept now Reading bytes fits is reads k b test yes_ same =
     ap (λ (x : List ℕ). reading machine (number_of_next machine) x) same
     ∙ (ap (λ (t : Bool). if t then reading machine (number_of_next machine) (kept ++ bytes) else refused (Spelling (number_of_next machine))) (sym yes_ ∙ test)
     ∙ (open_line_fed machine (number_of_next machine) kept bytes k b ∙ ap (λ (p : Place Machine). fed step p bytes) is))
-line_kept old machine kept now Ended bytes fits is reads k b test yes_ same = let none : IsReading (place_of machine kept Ended) = rw is reads in absurd none
-line_kept old machine kept now (Refused fault) bytes fits is reads k b test yes_ same = let none : IsReading (place_of machine kept (Refused fault)) = rw is reads in absurd none
+line_kept old machine kept now Ended bytes fits is reads k b test yes_ same = absurd (still (place_of machine kept Ended) old is reads)
+line_kept old machine kept now (Refused fault) bytes fits is reads k b test yes_ same = absurd (still (place_of machine kept (Refused fault)) old is reads)
 
 -- A line that has become too long is a fault.
 pub line_unfit : (old : Place Machine) (machine : Machine) (kept : List ℕ) (stage new : Stage) (now bytes : List ℕ) (fits : Bool)
@@ -77,5 +86,5 @@ line_unfit old machine kept Reading new now bytes fits is reads k b test no_ sam
     ap (place_of machine now) same
     ∙ (ap (λ (t : Bool). if t then reading machine (number_of_next machine) (kept ++ bytes) else refused (Spelling (number_of_next machine))) (sym no_ ∙ test)
     ∙ (open_line_fed machine (number_of_next machine) kept bytes k b ∙ ap (λ (p : Place Machine). fed step p bytes) is))
-line_unfit old machine kept Ended new now bytes fits is reads k b test no_ same = let none : IsReading (place_of machine kept Ended) = rw is reads in absurd none
-line_unfit old machine kept (Refused fault) new now bytes fits is reads k b test no_ same = let none : IsReading (place_of machine kept (Refused fault)) = rw is reads in absurd none
+line_unfit old machine kept Ended new now bytes fits is reads k b test no_ same = absurd (still (place_of machine kept Ended) old is reads)
+line_unfit old machine kept (Refused fault) new now bytes fits is reads k b test no_ same = absurd (still (place_of machine kept (Refused fault)) old is reads)
