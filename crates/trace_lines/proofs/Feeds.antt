@@ -8,13 +8,13 @@ use Rattle.fb_text.specs.Lines.{is_line_feed}
 use Rattle.trace_lines.specs.Reader.{LacksFeed, IsCut}
 
 -- The place of the first line feed, or the length.
-abbrev place : List ℕ → ℕ
+abbrev pub place : List ℕ → ℕ
 place text = position_or_len is_line_feed text
 
 shift_take : (n b : ℕ) (text : List ℕ) → take (1 + n) (b ∷ text) ≡ b ∷ take n text
 shift_take n b text = let e : 1 + n ≡ suc n = omega arith in ap (λ (k : ℕ). take k (b ∷ text)) e
 
-lacks_before : (text : List ℕ) → LacksFeed (take (place text) text)
+pub lacks_before : (text : List ℕ) → LacksFeed (take (place text) text)
 lacks_before [] = tt
 lacks_before (b ∷ text) = go (is_line_feed b) refl (lacks_before text)
   where

@@ -4,3 +4,4 @@ pub mod Long
 pub mod Fed
 pub mod Ended
 pub mod Meanings
+pub mod Printing

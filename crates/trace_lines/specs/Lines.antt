@@ -1,9 +1,10 @@
 -- The lines of a trace, and what they spell.
-use Rattle.std.specs.Prelude.{ℕ, Bool, true, false, ◌&&◌, List, [], ◌∷◌, Option, Some, None, codes, if◌then◌else◌}
+use Rattle.std.specs.Prelude.{ℕ, Bool, true, false, ◌&&◌, List, [], ◌∷◌, map, Option, Some, None, codes, if◌then◌else◌}
 use Rattle.std.specs.List.{slice_split}
 use Rattle.std.specs.Str.{bytes_eq}
 use Rattle.fb_text.specs.Lines.{is_line_feed}
 use Rattle.trace_text.specs.Reading.{pieces, event_at}
+use Rattle.trace_text.specs.Spelling.{text_of_event}
 use Rattle.journal.specs.declared.event.Event.{Event}
 
 -- A line: its bytes, and whether its line feed is there.
@@ -57,3 +58,7 @@ event_in bytes = event_at (pieces 32 bytes)
 -- The event that a line spells. A line without its line feed is spelled by no event.
 abbrev pub event_of : Line → Option Event
 event_of line = if line.closed then event_in line.bytes else None
+
+-- The lines of events.
+abbrev pub event_lines : List Event → List Line
+event_lines events = map (λ event. closed_line (text_of_event event)) events

@@ -7,7 +7,9 @@
 #![tactic(auto)]
 
 mod fault;
+mod laws;
 mod reader;
 
 pub use fault::ReplayFault;
+pub use laws::printed_events_are_traces;
 pub use reader::{Found, Reader, first_line};
