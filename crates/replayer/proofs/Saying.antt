@@ -75,3 +75,8 @@ accepts setup lines number = λ events is.
     ∙ (traced_all (opened setup) number events is.run.spelled may
     ∙ (ap close (after_opened setup events)
     ∙ ap (accepted machine) (none_present setup machine (board_places setup) is.complete refl)))
+
+-- What the outcome of a trace says.
+pub says_of : (setup : Setup) (lines : List Line) (answer : Result Machine ReplayFault) → answer ≡ outcome step close (opened setup) 1 lines
+    → IfOk answer (λ m. Complete m.setup (configuration m)) → Says setup lines answer
+says_of setup lines answer is complete = says setup lines answer complete (subst (Traced (opened setup) 1 lines) (sym is) (traced (opened setup) 1 lines))

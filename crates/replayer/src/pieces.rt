@@ -1,10 +1,13 @@
 //! A replay of a trace that comes piece by piece.
 
-ghost use Rattle.std.specs.Prelude.{◌≡◌, ◌↔◌, ◌++◌, ℕ, List, [], ◌∷◌, IsTrue};
-ghost use Rattle.backplane.specs.Machine.{opened};
+ghost use Rattle.std.specs.Prelude.{◌≡◌, ◌↔◌, ◌++◌, ℕ, List, [], ◌∷◌, IsTrue, IfOk};
+ghost use Rattle.bus_model.specs.Runs.{Complete};
+ghost use Rattle.backplane.specs.Machine.{opened, configuration};
+ghost use Rattle.trace_lines.specs.Lines.{trace_of};
 ghost use Rattle.trace_lines.specs.Reader.{LacksFeed};
 ghost use Rattle.trace_lines.specs.Replaying.{fed, ending};
 ghost use Rattle.replayer.specs.Replaying.{step, close, replayed};
+ghost use Rattle.replayer.specs.Runs.{Says, Accepts};
 ghost use Rattle.replayer.specs.Standing.{StandsFor, IsReading};
 
 use crate::stage::Stage;
@@ -53,7 +56,9 @@ impl Replay {
 
     /// The trace ends here. It gives the machine where the trace is one of a complete run of its setup.
     pub fn finish(self) -> Result<Machine, ReplayFault>
-        ensures { (text : List ℕ) → StandsFor self text → result ≡ replayed (opened self.setup) text }
+        ensures replayed { (text : List ℕ) → StandsFor self text → result ≡ replayed (opened self.setup) text }
+        ensures says { (text : List ℕ) → StandsFor self text → Says self.setup (trace_of text) result }
+        ensures accepts { (text : List ℕ) → StandsFor self text → Accepts self.setup (trace_of text) result }
     {
         self.answer()
     }
@@ -109,7 +114,8 @@ impl Replay {
 
     /// What the text comes to that ends here.
     fn answer(self) -> Result<Machine, ReplayFault>
-        ensures { result ≡ ending close self.place }
+        ensures ending { result ≡ ending close self.place }
+        ensures complete { IfOk result (λ m. Complete m.setup (configuration m)) }
     {
         let Replay {
             machine,

@@ -1,6 +1,8 @@
 //! What lines do to a machine.
 
-ghost use Rattle.std.specs.Prelude.{◌≡◌, []};
+ghost use Rattle.std.specs.Prelude.{◌≡◌, [], IfOk};
+ghost use Rattle.bus_model.specs.Runs.{Complete};
+ghost use Rattle.backplane.specs.Machine.{configuration};
 ghost use Rattle.trace_lines.specs.declared.fault.ReplayFault.TheVariants.{Spelling};
 ghost use Rattle.replayer.specs.declared.stage.Stage.TheVariants.{Refused};
 ghost use Rattle.replayer.specs.Replaying.{close};
@@ -53,7 +55,8 @@ pub fn misspelled(machine: &Machine) -> Stage
 
 /// The end of a trace: the machine is given where no board is unfinished.
 pub fn close(machine: Machine) -> Result<Machine, ReplayFault>
-    ensures { result ≡ close machine }
+    ensures closed { result ≡ close machine }
+    ensures complete { IfOk result (λ m. Complete m.setup (configuration m)) }
 {
     match machine.unfinished() {
         None => Ok(machine),
