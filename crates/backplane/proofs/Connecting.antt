@@ -84,9 +84,10 @@ fit_told setup rows line event [] [] = (λ h. tt, λ f. refl)
 fit_told setup rows line event (board ∷ boards) (a ∷ answers) =
     let rest = fit_told setup rows line event boards answers in
     let own = has_answer (answers_of (table_of setup board) (state_at rows board line) event) a.action in
-    let later = do_answers_fit setup rows line event boards answers in
-    (λ h. let p = and_parts (does_answer_fit setup rows line event board a) later h in let q = and_parts (a.board == board) own p.0 in (eqb-true a.board board q.0, q.1, rest.0 p.1),
-        λ f. and_from (does_answer_fit setup rows line event board a) later (and_from (a.board == board) own (eq-eqb a.board board f.0) f.1) (rest.1 f.2))
+    let later = do_answers_fit setup rows line event boards answers in (
+      λ h. let p = and_parts (does_answer_fit setup rows line event board a) later h in let q = and_parts (a.board == board) own p.0 in (eqb-true a.board board q.0, q.1, rest.0 p.1),
+      λ f. and_from (does_answer_fit setup rows line event board a) later (and_from (a.board == board) own (eq-eqb a.board board f.0) f.1) (rest.1 f.2),
+    )
 fit_told setup rows line event [] (a ∷ answers) = (λ h. cc, λ f. absurd f)
 fit_told setup rows line event (board ∷ boards) [] = (λ h. cc, λ f. absurd f)
 

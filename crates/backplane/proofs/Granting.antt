@@ -90,9 +90,16 @@ module _ (setup : Setup) (c : Configuration) (parts : Parts) (shows : PartsShow 
             number_highest = number_shown setup c parts shows winner ∙ can.winner_highest ∙ ap highest compete;
             lines_settled = can.lines_settled ∙ ap settled_lines compete;
             rounds_settled = can.rounds_settled ∙ ap settled_rounds compete;
-          } in
-          (shows.phase ∙ can.idle, (requesting by can.by_raised,
-          (record {
-            raised = requesting winner can.winner_raised;
-            settles = settled (competitors parts.requests) (number_of (setup_of parts.rack) winner) lines rounds (some_compete by can.by_raised) s;
-          }, tt)))
+          } in (
+            shows.phase ∙ can.idle,
+            (
+              requesting by can.by_raised,
+              (
+                record {
+                  raised = requesting winner can.winner_raised;
+                  settles = settled (competitors parts.requests) (number_of (setup_of parts.rack) winner) lines rounds (some_compete by can.by_raised) s;
+                },
+                tt,
+              ),
+            ),
+          )

@@ -16,3 +16,5 @@ pub mod Carrying
 pub mod Answering
 pub mod Turning
 pub mod Permitted
+pub mod Listing
+pub mod Running

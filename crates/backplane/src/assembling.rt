@@ -44,9 +44,9 @@ fn accepted(alloc: Global, tables: &[Table]) -> Result<Vec<Accepted>, AssembleFa
         };
         match accept(alloc, table) {
             Ok(table) => {
-                if all.push(table).is_err() {
+                let Ok(()) = all.push(table) else {
                     return Err(AssembleFault::NoMemory);
-                }
+                };
             }
             Err(AcceptFault::Refused { verdict, .. }) => {
                 return Err(AssembleFault::TableRefused {
@@ -84,9 +84,9 @@ fn numbers(alloc: Global, boards: &[BoardSpec]) -> Result<Vec<u16>, NoMemory>
 {
     let mut numbers = Vec::new(alloc);
     for board in boards {
-        if numbers.push(board.number).is_err() {
+        let Ok(()) = numbers.push(board.number) else {
             return Err(NoMemory);
-        }
+        };
     }
     Ok(numbers)
 }
@@ -97,9 +97,9 @@ fn first_places(alloc: Global, boards: usize) -> Result<Vec<u32>, NoMemory>
 {
     let mut places = Vec::new(alloc);
     for _ in 0..boards {
-        if places.push(0).is_err() {
+        let Ok(()) = places.push(0) else {
             return Err(NoMemory);
-        }
+        };
     }
     Ok(places)
 }
@@ -110,9 +110,10 @@ fn script_lengths(alloc: Global, setup: &Setup) -> Result<Vec<usize>, NoMemory>
 {
     let mut lengths = Vec::new(alloc);
     for place in 0..setup.boards().len() as u8 {
-        if lengths.push(setup.script(BoardNo(place + 1)).len()).is_err() {
+        let length = setup.script(BoardNo(place + 1)).len();
+        let Ok(()) = lengths.push(length) else {
             return Err(NoMemory);
-        }
+        };
     }
     Ok(lengths)
 }

@@ -29,11 +29,11 @@ impl Model for Histories {
 }
 
 /// Adds an item to one of these lists.
-fn push_at<T: Copy + Drop>(lists: &mut [Vec<T>], place: usize, item: T)
-    requires there { place < length lists.old }
-    requires room { length (slice_index_or (rows lists.old) place []) < slice_index_or (rooms lists.old) place 0 }
-    ensures items { rows lists.new ≡ slice_set (rows lists.old) place (slice_index_or (rows lists.old) place [] ++ item ∷ []) }
-    ensures rooms { rooms lists.new ≡ rooms lists.old }
+fn push_at<T: Copy + Drop>(lists: &mut Vec<Vec<T>>, place: usize, item: T)
+    requires there { place < length lists.old.items }
+    requires room { length (slice_index_or (rows lists.old.items) place []) < slice_index_or (rooms lists.old.items) place 0 }
+    ensures items { rows lists.new.items ≡ slice_set (rows lists.old.items) place (slice_index_or (rows lists.old.items) place [] ++ item ∷ []) }
+    ensures rooms { rooms lists.new.items ≡ rooms lists.old.items }
 {
     let list = &mut lists[place];
     list.push_reserved(item);
@@ -49,9 +49,9 @@ impl Histories {
             let Ok(list) = Vec::with_capacity(alloc, *room) else {
                 return Err(NoMemory);
             };
-            if lists.push(list).is_err() {
+            let Ok(()) = lists.push(list) else {
                 return Err(NoMemory);
-            }
+            };
         }
         Ok(Histories { lists })
     }

@@ -28,9 +28,13 @@ fn finish(machine: &mut Machine)
     ensures machine { (rounds : ℕ) → 8 * access_count machine.old.setup ≤ rounds → machine.new ≡ after_turns machine.old (repeated rounds (board_places machine.old.setup)) }
     ensures complete { Complete machine.new.setup (configuration machine.new) }
 {
+    // The journal of a machine has at most 8 events an access.
+    let mut made = machine.journal().len();
     while !machine.finished() {
         machine.round();
+        made = machine.journal().len();
     }
+    let _ = made;
 }
 
 /// Plays a schedule from the opening: its turns, and then rounds until every script is at its end.

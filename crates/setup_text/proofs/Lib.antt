@@ -2,9 +2,15 @@ pub mod Naming
 pub mod Drafts
 pub mod TableLines
 pub mod LineSteps
+pub mod Texts
+pub mod Schedules
 pub mod Writes
 pub mod WrittenWords
 pub mod WrittenTables
 pub mod WrittenBoards
 pub mod WrittenRows
 pub mod WrittenSetup
+pub mod LinesAgain
+pub mod RowsAgain
+pub mod ReadAgain
+pub mod BookAgain

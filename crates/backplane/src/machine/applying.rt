@@ -126,6 +126,7 @@ impl Machine {
         ensures legal { Legal self.new.setup.memory (entries self.new.journal) }
         ensures bounded { length self.new.journal ≤ 8 * access_count self.new.setup }
     {
+        let _ = &self.setup;
         if !self.may_happen(event) {
             return Err(NotARun);
         }

@@ -29,9 +29,10 @@ impl Machine {
         ensures count { result ≡ length (events_of_turns self.old.setup (configuration self.old) (board_places self.old.setup)) }
         ensures goes_on { (Complete self.old.setup (configuration self.old) → ⊥) → 1 ≤ result }
     {
-        let _journal = self.journal();
+        let _ = &self.setup;
+        let boards = self.boards();
         let mut did = 0;
-        for place in 0..self.boards() {
+        for place in 0..boards {
             did += events_of(self.advance(BoardNo(place + 1)));
         }
         did

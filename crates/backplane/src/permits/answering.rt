@@ -59,12 +59,7 @@ fn does_answer_fit(
 
 /// How many answers are taken after a board's turn to answer, if these many were before: one more where the board holds the
 /// line and the next answer is one that it may give.
-fn answered(
-    rack: &Rack,
-    connected: &Connected,
-    board: BoardNo,
-    before: usize,
-) -> Option<usize>
+fn answered(rack: &Rack, connected: &Connected, board: BoardNo, before: usize) -> Option<usize>
     requires board { IsBoard rack.now board }
     requires within { before ≤ length connected.now.answers }
     ensures within { IfSome result (λ count. count ≤ length connected.now.answers) }
@@ -78,7 +73,13 @@ fn answered(
     if before == answers.len() {
         return None;
     }
-    if !does_answer_fit(rack, connected.line, connected.event, board, &answers[before]) {
+    if !does_answer_fit(
+        rack,
+        connected.line,
+        connected.event,
+        board,
+        &answers[before],
+    ) {
         return None;
     }
     Some(before + 1)

@@ -38,7 +38,10 @@ fn serves_access(parts: &Parts, access: &Access, connected: &Connected) -> bool
     };
     let line = is_line(connected.line, line_of(access));
     let alternative = has_local(cell_of(&parts.rack, connected.master, access), &action);
-    let full = parts.rack.victim(connected.master, connected.line).is_some();
+    let full = parts
+        .rack
+        .victim(connected.master, connected.line)
+        .is_some();
     let room = has_room(full, &connected.outcome);
     all_hold(&[line, alternative, room])
 }

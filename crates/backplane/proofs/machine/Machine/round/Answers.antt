@@ -3,6 +3,7 @@ use Rattle.bus_model.specs.Setup.{board_places}
 use Rattle.bus_model.specs.Turns.{events_of_turns}
 use Rattle.backplane.specs.Machine.{Machine, configuration}
 use Rattle.backplane.specs.Moves.{after_turns, events_told, moved, turn_of}
+use Rattle.backplane.proofs.Running.{run_of, run_sound}
 use Rattle.backplane.proofs.Turning.{done_by, next_count, next_in_round, next_turn, round_goes_on, told_count, told_few, whole_round}
 use Rattle.backplane.proofs.machine.Machine.round.Goals as goal
 
@@ -11,7 +12,7 @@ loop-place-preserved c =
     let m = c.args.self.now in
     let place = c.loop-place.place in
     let i = c.loop-place.invariant in
-    let boards = c.boards-place-end.ensures.boards in
+    let boards = c.boards-boards.ensures.boards in
     let test = c.loop-place-test.true in
     let before = take place (board_places m.setup) in
     let next = next_in_round m.setup place (omega arith) in
@@ -27,20 +28,21 @@ loop-place-preserved c =
 pub returns-clause-turns : goal.returns-clause-turns
 returns-clause-turns c =
     let m = c.args.self.now in
-    let boards = c.boards-place-end.ensures.boards in
+    let boards = c.boards-boards.ensures.boards in
     let test = c.loop-place-test.false in
     c.loop-place.invariant.turned ∙ ap (after_turns m) (whole_round m.setup c.loop-place.place (omega arith))
 
 pub returns-clause-count : goal.returns-clause-count
 returns-clause-count c =
     let m = c.args.self.now in
-    let boards = c.boards-place-end.ensures.boards in
+    let boards = c.boards-boards.ensures.boards in
     let test = c.loop-place-test.false in
     c.loop-place.invariant.counted ∙ ap (λ places. length (events_of_turns m.setup (configuration m) places)) (whole_round m.setup c.loop-place.place (omega arith))
 
 pub returns-clause-goes_on : goal.returns-clause-goes_on
 returns-clause-goes_on c = λ unfinished.
     let m = c.args.self.now in
-    let some = round_goes_on m.setup m.journal (configuration m) c.journal-journal.ensures.setup c.journal-journal.ensures.sound unfinished in
+    let run = run_of c.self.inside.setup c.self.inside.journal.items _ c.self.inside.parts _ m c.self.invariant c.self.view_is in
+    let some = round_goes_on m.setup m.journal (configuration m) run.fits (run_sound m run) unfinished in
     let count = returns-clause-count c in
     omega arith
