@@ -18,3 +18,7 @@ pub mod Turning
 pub mod Permitted
 pub mod Listing
 pub mod Running
+pub mod Stepping
+pub mod Filling
+pub mod Keeping
+pub mod Moving

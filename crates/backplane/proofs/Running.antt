@@ -1,12 +1,10 @@
 -- A machine's journal is a run of an accepted setup, and goes on by each event that may happen.
-use Rattle.std.proofs.Common.{List, [], length, refl, subst, ℕ, ◌*◌, ◌++◌, ◌∷◌, ◌≡◌, ◌≤◌}
-use Rattle.bus_model.specs.Configuration.{Configuration, opening}
+use Rattle.std.proofs.Common.{List, length, subst, ℕ, ◌*◌, ◌≡◌, ◌≤◌}
 use Rattle.bus_model.specs.Entries.{Legal, entries}
 use Rattle.bus_model.specs.Events.{Event}
-use Rattle.bus_model.specs.Runs.{Leads, Run, after_all}
+use Rattle.bus_model.specs.Runs.{Run}
 use Rattle.bus_model.specs.Setup.{AllInClass, Setup, WellFormed, access_count}
 use Rattle.bus_model.specs.Soundness.{Sound}
-use Rattle.bus_model.specs.Steps.{Can, after}
 use Rattle.coherence.proofs.Journal.{journals_are_bounded}
 use Rattle.coherence.proofs.Replies.{every_history_is_legal}
 use Rattle.coherence.proofs.Steps.{every_run_is_sound}
@@ -14,6 +12,7 @@ use Rattle.backplane.specs.declared.parts.Parts.{Parts}
 use Rattle.backplane.specs.Histories.{Histories}
 use Rattle.backplane.specs.Machine.{Machine, MayHappen, configuration, happened}
 use Rattle.backplane.specs.Standing.{Stands}
+use Rattle.backplane.proofs.Stepping.{run-push}
 
 -- The journal of a machine is a run of its setup, whose tables are all in the class.
 pub record IsRun (m : Machine) : Type 0 where
@@ -24,13 +23,9 @@ pub record IsRun (m : Machine) : Type 0 where
 pub run_of : (setup : Setup) (events : List Event) (capacity : ℕ) (parts : Parts) (histories : Histories) (m : Machine) → Stands setup events capacity parts histories → record { setup = setup; journal = events } ≡ m → IsRun m
 run_of setup events capacity parts histories m stands view = subst IsRun view (record { fits = stands.fits; accepted = stands.accepted; run = stands.run })
 
-leads_next : (setup : Setup) (c : Configuration) (events : List Event) (event : Event) → Leads setup c events (after_all c events) → Can setup (after_all c events) event → Leads setup c (events ++ event ∷ []) (after_all c (events ++ event ∷ []))
-leads_next setup c [] event run can = (can, refl)
-leads_next setup c (x ∷ xs) event run can = (run.0, leads_next setup (after c x) xs event run.1 can)
-
 -- A run goes on by an event that may happen.
 pub run_next : (m : Machine) (event : Event) → IsRun m → MayHappen m event → IsRun (happened m event)
-run_next m event r can = record { fits = r.fits; accepted = r.accepted; run = leads_next m.setup (opening m.setup) m.journal event r.run can }
+run_next m event r can = record { fits = r.fits; accepted = r.accepted; run = run-push m.setup m.journal event r.run can }
 
 module _ (m : Machine) (r : IsRun m) where
   pub run_sound : Sound m.setup m.journal (configuration m)

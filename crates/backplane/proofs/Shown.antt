@@ -1,16 +1,13 @@
 -- What the parts show of the configuration: cells, victims and holders.
 use Rattle.std.proofs.Common.{◌≡◌, [], ap, ℕ}
 use Rattle.bus_signals.specs.declared.Access.{Access}
-use Rattle.class_relation.specs.declared.LocalAction.{LocalAction}
 use Rattle.bus_model.specs.Setup.{Setup, table_of, number_of}
 use Rattle.bus_model.specs.Configuration.{Configuration, state_at, words_at}
 use Rattle.bus_model.specs.Board.{cell_of, is_full, victim}
 use Rattle.bus_model.specs.Connecting.{other_holders}
 use Rattle.board.specs.Rack.{setup_of}
-use Rattle.moesi_state.specs.declared.State.{State}
 use Rattle.backplane.specs.declared.parts.Parts.{Parts}
 use Rattle.backplane.specs.Parts.{PartsShow}
-use Rattle.std.specs.Prelude.{Option}
 
 module _ (setup : Setup) (c : Configuration) (parts : Parts) (shows : PartsShow setup c parts) where
   pub table_shown : (board : ℕ) → table_of (setup_of parts.rack) board ≡ table_of setup board

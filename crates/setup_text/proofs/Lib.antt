@@ -4,6 +4,9 @@ pub mod TableLines
 pub mod LineSteps
 pub mod Texts
 pub mod Schedules
+pub mod LineWords
+pub mod Growing
+pub mod Parts
 pub mod Writes
 pub mod WrittenWords
 pub mod WrittenTables

@@ -1,6 +1,6 @@
 //! What the machine shows.
 
-ghost use Rattle.std.specs.Prelude.{◌≡◌, ◌↔◌, ◌*◌, ◌<◌, ◌≤◌, ℕ, Some, None, IsTrue, IsNone, length, find, is_some, option_map};
+ghost use Rattle.std.specs.Prelude.{◌≡◌, ◌↔◌, ◌*◌, ◌<◌, ◌≤◌, ℕ, Some, None, IsTrue, IsNone, length, find, is_some, option_map, slice_get};
 ghost use Rattle.bus_signals.specs.declared.Access.{Access};
 ghost use Rattle.moesi_state.specs.declared.State.TheVariants.{I};
 ghost use Rattle.bus_model.specs.Setup.{line_count, access_count, board_places, WellFormed, AllInClass};
@@ -15,6 +15,13 @@ use bus_signals::{Access, BoardNo, LineNo};
 use flat_memory::Entry;
 use journal::Event;
 use moesi_state::State;
+
+/// The access at a place of a script, from 0.
+fn access_at(script: &[Access], place: u32) -> Option<Access>
+    ensures { result ≡ slice_get script.now place }
+{
+    script.get(place as usize).copied()
+}
 
 impl Machine {
     /// The number of boards.
@@ -53,7 +60,7 @@ impl Machine {
         ensures { result ≡ present_access self.now.setup (configuration self.now).boards board }
     {
         let place = self.parts.place(board);
-        self.setup.script(board).get(place as usize).copied()
+        access_at(self.setup.script(board), place)
     }
 
     /// The lowest board whose script is not at its end.

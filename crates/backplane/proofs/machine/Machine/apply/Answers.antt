@@ -1,5 +1,4 @@
 use Rattle.std.proofs.Common.{subst, sym}
-use Rattle.backplane.specs.Machine.{MayHappen, happened}
 use Rattle.backplane.proofs.Running.{IsRun, run_bounded, run_legal, run_next, run_of, run_sound}
 use Rattle.backplane.proofs.machine.Machine.apply.Goals as goal
 

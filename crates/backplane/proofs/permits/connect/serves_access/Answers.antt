@@ -1,4 +1,4 @@
-use Rattle.std.proofs.Common.{Bool, Some, ap, length, not, sym, arith, ◌||◌, ◌∙◌, ◌≡◌, ℕ}
+use Rattle.std.proofs.Common.{Some, ap, length, not, sym, arith, ◌||◌, ◌∙◌, ◌≡◌, ℕ}
 use Rattle.std.specs.List.{list_any}
 use Rattle.std.specs.Prelude.{is_some, option_map}
 use Rattle.moesi_state.specs.declared.State.{State}
