@@ -31,6 +31,7 @@ found_closed machine number bytes = at (is_end_word bytes)
     by : (o : Option Event) → at_found machine number (found_event o) ≡ by_event step machine refused (λ next. reading next (number + 1) []) number o
     by None = refl
     by (Some event) = refl
+
     at : (b : Bool) → at_found machine number (if b then found.End else found_event (event_in bytes)) ≡ (if b then ended machine else by_event step machine refused (λ next. reading next (number + 1) []) number (event_in bytes))
     at true = refl
     at false = by (event_in bytes)

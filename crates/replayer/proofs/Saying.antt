@@ -49,13 +49,17 @@ says setup lines (Err (Spelling k)) complete t =
     (t.events, t.line, t.rest, record { run = begins setup lines t.events (t.line ∷ t.rest) t.begin; counted = let c = t.count in omega arith; unspelled = unspelled t.line t.none })
 says setup lines (Err (NotARun k)) complete t =
     let s = line_is t.line t.event t.some in
-    let from : BeginWithRun setup lines t.events (t.line ∷ t.rest) = begins setup lines t.events (t.line ∷ t.rest) t.begin in
-    (t.events, t.event, t.rest, record {
-      run = subst (λ (l : Line). BeginWithRun setup lines t.events (l ∷ t.rest)) s.1 from;
-      counted = let c = t.count in omega arith;
-      spelled = s.0;
-      no_step = λ can. t.not (subst (λ (m : Machine). Rattle.backplane.specs.Machine.MayHappen m t.event) (sym (after_opened setup t.events)) can);
-    })
+    let from : BeginWithRun setup lines t.events (t.line ∷ t.rest) = begins setup lines t.events (t.line ∷ t.rest) t.begin in (
+      t.events,
+      t.event,
+      t.rest,
+      record {
+        run = subst (λ (l : Line). BeginWithRun setup lines t.events (l ∷ t.rest)) s.1 from;
+        counted = let c = t.count in omega arith;
+        spelled = s.0;
+        no_step = λ can. t.not (subst (λ (m : Machine). Rattle.backplane.specs.Machine.MayHappen m t.event) (sym (after_opened setup t.events)) can);
+      },
+    )
 says setup lines (Err (Unfinished b)) complete t =
     let lowest = accepted_lowest (after_events (opened setup) t.events) b (lowest_unfinished (after_events (opened setup) t.events)) t.closes in
     (t.events, record { run = begins setup lines t.events [] t.begin; lowest = subst (λ (m : Machine). lowest_unfinished m ≡ Some b) (after_opened setup t.events) lowest })

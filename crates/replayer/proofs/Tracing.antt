@@ -106,6 +106,7 @@ traced machine number (line ∷ lines) = by (λ next. traced next (number + 1) l
   where
     go : Machine → Result Machine ReplayFault
     go next = outcome step close next (number + 1) lines
+
     by : ((next : Machine) → Traced next (number + 1) lines (go next)) → (o : Option Event) → event_of line ≡ o → Traced machine number (line ∷ lines) (by_event step machine Err go number o)
     by more None is = record { events = []; line = line; rest = lines; begin = begin_none machine (line ∷ lines); count = omega arith; none = is }
     by more (Some event) is = at (decided machine.setup (configuration machine) event)

@@ -73,7 +73,7 @@ same_access (access.Flush a) (access.Pass b) = inr (λ h. cc)
 pub same_done : Testable Done
 same_done a b =
     known_as (λ h. λ i. record { access = h.0 i; reply = h.1 i }) (λ h. (ap (λ (d : Done). d.access) h, ap (λ (d : Done). d.reply) h))
-        (known_both (same_access a.access b.access) (same_option same_number a.reply b.reply))
+    (known_both (same_access a.access b.access) (same_option same_number a.reply b.reply))
 
 pub same_source : Testable Source
 same_source Nobody Nobody = inl refl
@@ -89,4 +89,4 @@ same_source (Board a) Memory = inr (λ h. cc)
 pub same_takers : Testable Takers
 same_takers a b =
     known_as (λ h. λ i. record { memory = h.0 i; boards = h.1 i }) (λ h. (ap (λ (t : Takers). t.memory) h, ap (λ (t : Takers). t.boards) h))
-        (known_both (same_bool a.memory b.memory) (same_list same_number a.boards b.boards))
+    (known_both (same_bool a.memory b.memory) (same_list same_number a.boards b.boards))

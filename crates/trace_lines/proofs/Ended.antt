@@ -37,6 +37,7 @@ follow_ends {M} step close m number (l ∷ ls) are = go (λ next. follow_ends st
         ≡ outcome step close m number (if b then [] else record { bytes = l.bytes; closed = true } ∷ before_end ls)
     at more true = refl
     at more false = closed_ends step close m number l.bytes (λ next. follow step next (number + 1) ls) (λ next. outcome step close next (number + 1) (before_end ls)) more (event_in l.bytes)
+
     go : ((next : M) → ending close (follow step next (number + 1) ls) ≡ outcome step close next (number + 1) (before_end ls))
         → (closed : Bool) → l.closed ≡ closed
         → ending close (if closed then at_closed step m number l.bytes (λ next. follow step next (number + 1) ls) else at_open m number l.bytes)

@@ -19,9 +19,11 @@ closed_fed {M} step m number bytes piece f g same = at (is_end_word bytes)
     by_next : (o : Option M) → by_step refused g number o ≡ fed step (by_step refused f number o) piece
     by_next None = refl
     by_next (Some next) = same next
+
     by : (o : Option Event) → by_event step m refused g number o ≡ fed step (by_event step m refused f number o) piece
     by None = refl
     by (Some e) = by_next (step m e)
+
     at : (b : Bool) → (if b then ended m else by_event step m refused g number (event_in bytes)) ≡ fed step (if b then ended m else by_event step m refused f number (event_in bytes)) piece
     at true = refl
     at false = by (event_in bytes)

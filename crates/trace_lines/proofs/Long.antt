@@ -55,6 +55,7 @@ long_front step m number front (l ∷ ls) long = go l.closed
   where
     longer : longest < length (front ++ l.bytes)
     longer = let k = length-append front l.bytes in omega arith
+
     go : (closed : Bool) → (if closed then at_closed step m number (front ++ l.bytes) (λ next. follow step next (number + 1) ls) else at_open m number (front ++ l.bytes)) ≡ refused (Spelling number)
     go true = long_closed step m number (front ++ l.bytes) (λ next. follow step next (number + 1) ls) longer
     go false = long_open m number (front ++ l.bytes) longer

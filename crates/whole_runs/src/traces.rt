@@ -64,11 +64,7 @@ fn whole(alloc: Global, trace: &[u8]) -> Result<Result<usize, ReplayFault>, Fail
 }
 
 /// What a trace comes to in pieces of some size.
-fn in_pieces(
-    alloc: Global,
-    trace: &[u8],
-    size: usize,
-) -> Result<Result<usize, ReplayFault>, Fail> {
+fn in_pieces(alloc: Global, trace: &[u8], size: usize) -> Result<Result<usize, ReplayFault>, Fail> {
     let machine = opened(alloc)?;
     let mut replay = Replay::start(machine);
     let mut rest = trace;
@@ -85,16 +81,40 @@ fn traces_of_a_run(rt: HostRuntime) -> Result<(), Fail> {
     let alloc = rt.alloc();
     let ending = "answer 2 1 5 7\nmemory 0 0 0 0 0\nmemory 1 0 100 0 0\ncopy 1 1 M 0 7 0 0\n";
     let rows = [
-        (format!(in alloc; "{ALL_BUT_ONE}{LAST}\nend\n{ending}")?, Ok(8)),
+        (
+            format!(in alloc; "{ALL_BUT_ONE}{LAST}\nend\n{ending}")?,
+            Ok(8),
+        ),
         (format!(in alloc; "{ALL_BUT_ONE}{LAST}\n")?, Ok(8)),
         (format!(in alloc; "{ALL_BUT_ONE}{LAST}\nend\nend")?, Ok(8)),
-        (format!(in alloc; "{ALL_BUT_ONE}{LAST}00\nend\n")?, Err(ReplayFault::NotARun { line: 8 })),
-        (format!(in alloc; "{ALL_BUT_ONE}end\n{LAST}\n")?, Err(ReplayFault::Unfinished { board: BoardNo(2) })),
-        (format!(in alloc; "{ALL_BUT_ONE}")?, Err(ReplayFault::Unfinished { board: BoardNo(2) })),
-        (format!(in alloc; "{ALL_BUT_ONE}data 2 urd")?, Err(ReplayFault::Spelling { line: 8 })),
-        (format!(in alloc; "{ALL_BUT_ONE}{LAST}")?, Err(ReplayFault::Spelling { line: 8 })),
-        (format!(in alloc; "{ALL_BUT_ONE}{LAST}\nend")?, Err(ReplayFault::Spelling { line: 9 })),
-        (format!(in alloc; "{ALL_BUT_ONE}{LAST}\nraise 1\n")?, Err(ReplayFault::NotARun { line: 9 })),
+        (
+            format!(in alloc; "{ALL_BUT_ONE}{LAST}00\nend\n")?,
+            Err(ReplayFault::NotARun { line: 8 }),
+        ),
+        (
+            format!(in alloc; "{ALL_BUT_ONE}end\n{LAST}\n")?,
+            Err(ReplayFault::Unfinished { board: BoardNo(2) }),
+        ),
+        (
+            format!(in alloc; "{ALL_BUT_ONE}")?,
+            Err(ReplayFault::Unfinished { board: BoardNo(2) }),
+        ),
+        (
+            format!(in alloc; "{ALL_BUT_ONE}data 2 urd")?,
+            Err(ReplayFault::Spelling { line: 8 }),
+        ),
+        (
+            format!(in alloc; "{ALL_BUT_ONE}{LAST}")?,
+            Err(ReplayFault::Spelling { line: 8 }),
+        ),
+        (
+            format!(in alloc; "{ALL_BUT_ONE}{LAST}\nend")?,
+            Err(ReplayFault::Spelling { line: 9 }),
+        ),
+        (
+            format!(in alloc; "{ALL_BUT_ONE}{LAST}\nraise 1\n")?,
+            Err(ReplayFault::NotARun { line: 9 }),
+        ),
     ];
     for (trace, wanted) in &rows {
         let trace = trace.as_bytes();
@@ -110,16 +130,46 @@ fn traces_of_a_run(rt: HostRuntime) -> Result<(), Fail> {
 fn traces_of_no_run(rt: HostRuntime) -> Result<(), Fail> {
     let alloc = rt.alloc();
     let rows = [
-        (format!(in alloc; "")?, Err(ReplayFault::Unfinished { board: BoardNo(1) })),
-        (format!(in alloc; "end\n{LONG}")?, Err(ReplayFault::Unfinished { board: BoardNo(1) })),
-        (format!(in alloc; "end")?, Err(ReplayFault::Spelling { line: 1 })),
-        (format!(in alloc; "\n")?, Err(ReplayFault::Spelling { line: 1 })),
-        (format!(in alloc; "{LONG}\n")?, Err(ReplayFault::Spelling { line: 1 })),
-        (format!(in alloc; "raise 1\n{LONG}")?, Err(ReplayFault::Spelling { line: 2 })),
-        (format!(in alloc; "raise 01\n")?, Err(ReplayFault::Spelling { line: 1 })),
-        (format!(in alloc; "raise 3\nraise 1\nend\n")?, Err(ReplayFault::NotARun { line: 1 })),
-        (format!(in alloc; "raise 1\nraise 1\n")?, Err(ReplayFault::NotARun { line: 2 })),
-        (format!(in alloc; "raise 1\ngrant 1 to 1 lines 10 rounds 1\n")?, Err(ReplayFault::NotARun { line: 2 })),
+        (
+            format!(in alloc; "")?,
+            Err(ReplayFault::Unfinished { board: BoardNo(1) }),
+        ),
+        (
+            format!(in alloc; "end\n{LONG}")?,
+            Err(ReplayFault::Unfinished { board: BoardNo(1) }),
+        ),
+        (
+            format!(in alloc; "end")?,
+            Err(ReplayFault::Spelling { line: 1 }),
+        ),
+        (
+            format!(in alloc; "\n")?,
+            Err(ReplayFault::Spelling { line: 1 }),
+        ),
+        (
+            format!(in alloc; "{LONG}\n")?,
+            Err(ReplayFault::Spelling { line: 1 }),
+        ),
+        (
+            format!(in alloc; "raise 1\n{LONG}")?,
+            Err(ReplayFault::Spelling { line: 2 }),
+        ),
+        (
+            format!(in alloc; "raise 01\n")?,
+            Err(ReplayFault::Spelling { line: 1 }),
+        ),
+        (
+            format!(in alloc; "raise 3\nraise 1\nend\n")?,
+            Err(ReplayFault::NotARun { line: 1 }),
+        ),
+        (
+            format!(in alloc; "raise 1\nraise 1\n")?,
+            Err(ReplayFault::NotARun { line: 2 }),
+        ),
+        (
+            format!(in alloc; "raise 1\ngrant 1 to 1 lines 10 rounds 1\n")?,
+            Err(ReplayFault::NotARun { line: 2 }),
+        ),
         (
             format!(in alloc;
                 "raise 1\ngrant 1 to 1 lines 10 rounds 0\nconnect 1 rfo line 1 to M answers none\n\
