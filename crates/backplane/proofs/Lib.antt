@@ -17,7 +17,6 @@ pub mod Answering
 pub mod Turning
 pub mod Permitted
 pub mod Listing
-pub mod Running
 pub mod Stepping
 pub mod Filling
 pub mod Keeping
