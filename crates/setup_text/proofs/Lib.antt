@@ -7,6 +7,8 @@ pub mod Schedules
 pub mod LineWords
 pub mod Growing
 pub mod Parts
+pub mod SetupLines
+pub mod SetupAgain
 pub mod Writes
 pub mod WrittenWords
 pub mod WrittenTables

@@ -1,4 +1,5 @@
-use Rattle.setup_text.proofs.Parts.{stands}
+use Rattle.setup_text.proofs.SetupLines.{line_takes}
+use Rattle.setup_text.proofs.SetupAgain.{rows_at}
 use Rattle.setup_text.proofs.LineWords.{head_reads}
 use Rattle.setup_text.proofs.book.read_book.Goals as goal
 
