@@ -9,6 +9,7 @@ pub mod Growing
 pub mod Parts
 pub mod SetupLines
 pub mod SetupAgain
+pub mod Setups
 pub mod Writes
 pub mod WrittenWords
 pub mod WrittenTables

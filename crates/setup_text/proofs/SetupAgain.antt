@@ -266,9 +266,9 @@ so_far_runs s h = boards_run (lines_count s.boards) s.lines s.words s.tables s.b
 
 -- So are those of a whole setup.
 pub setup_runs : (s : SetupText) → StandsSoFar s → 0 < length s.boards → rows_at start (setup_rows s) ≡ Ok (ended (setup_of s))
+unfolding body_line
 setup_runs s h some = rows_push start (body (setup_of s)) (ended (setup_of s)) (open_rows s) end_row (so_far_runs s h) (ends s.boards some)
   where
     ends : (bs : List BoardText) → 0 < length bs → line_at (body (setup_of (text s.lines s.words s.tables bs))) end_row ≡ Ok (ended (setup_of (text s.lines s.words s.tables bs)))
-    unfolding body_line
     ends [] some = absurd (omega arith)
     ends (b ∷ bs) some = refl
