@@ -10,6 +10,7 @@ pub mod Parts
 pub mod SetupLines
 pub mod SetupAgain
 pub mod Setups
+pub mod Books
 pub mod Writes
 pub mod WrittenWords
 pub mod WrittenTables

@@ -188,7 +188,7 @@ name_new w (t ∷ ts) h = go (bytes_eq w t.name) refl (name_new w ts (λ k d low
     go false e rest = rw (e, rest) refl
 
 -- one of the tables that stand, behind those before it
-one_stands : (ts more : List Table) (t : TableText) → AreTables (ts ++ table_of t.name t.cells ∷ more) → TableFits t → CellsStand t → TableStands ts t
+pub one_stands : (ts more : List Table) (t : TableText) → AreTables (ts ++ table_of t.name t.cells ∷ more) → TableFits t → CellsStand t → TableStands ts t
 one_stands ts more t are fits cells =
     let whole = table_of t.name t.cells in
     record {
