@@ -127,8 +127,8 @@ pub rows_push : (m k j : BookMode) (a : List Words) (l : Words) → rows_at m a 
 rows_push m k j a l e h = rows_append m a (l ∷ []) ∙ rw (e, h) refl
 
 cells_again : (tables : List Table) (t : Table) (cells : List CellLine) → HasAllCells t → AllStand t cells → rows_at (within tables t) (map cell_words cells) ≡ Ok (within tables (all_entered t cells))
-cells_again tables t [] whole h = refl
-cells_again tables t (c ∷ cells) whole h = rw (line_again t c whole h.0) (cells_again tables (entered t c) cells (entered_whole t c whole) h.1)
+cells_again tables t [] all h = refl
+cells_again tables t (c ∷ cells) all h = rw (line_again t c all h.0) (cells_again tables (entered t c) cells (entered_whole t c all) h.1)
 
 pub open_again : (ts : List TableText) (t : TableText) → TableStands (tables_of ts) t → rows_at (whole (tables_of ts)) (open_table_rows t) ≡ Ok (within (tables_of ts) (table_of t.name t.cells))
 open_again ts t h = rw (head_reads (tables_of ts) t.name h.few h.fits.name h.new) (cells_again (tables_of ts) (empty_table t.name) t.cells (empty_whole t.name) h.cells)

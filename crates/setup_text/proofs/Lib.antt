@@ -11,6 +11,7 @@ pub mod SetupLines
 pub mod SetupAgain
 pub mod Setups
 pub mod Books
+pub mod Follows
 pub mod Writes
 pub mod WrittenWords
 pub mod WrittenTables
