@@ -103,14 +103,14 @@ boards_rows [] = []
 boards_rows (b ∷ bs) = board_rows b ++ boards_rows bs
 
 -- the accesses of a board, and what stands behind them
-peel_accesses : (as cs : List Access) (bs ds : List BoardText) (l : Words) (others : List Words) → AllByRecursion AccessFits cs → map access_row as ++ (boards_rows bs ++ (l ∷ others)) ≡ map access_row cs ++ (boards_rows ds ++ (end_row ∷ []))
+peel_accesses : (ps cs : List Access) (bs ds : List BoardText) (l : Words) (others : List Words) → AllByRecursion AccessFits cs → map access_row ps ++ (boards_rows bs ++ (l ∷ others)) ≡ map access_row cs ++ (boards_rows ds ++ (end_row ∷ []))
     → (boards_rows bs ++ (l ∷ others) ≡ boards_rows ds ++ (end_row ∷ [])) ⊎ ((a : Access) × AccessFits a × (l ≡ access_row a))
 peel_accesses [] [] bs ds l others fits e = inl e
 peel_accesses [] (c ∷ cs) [] ds l others fits e = inr (c, fits.0, cc)
 peel_accesses [] (c ∷ cs) (b ∷ bs) ds l others fits e = absurd (let same : board_row b ≡ access_row c = cc in no_access_board c b (sym same))
-peel_accesses (a ∷ as) [] bs [] l others fits e = absurd (let same : access_row a ≡ end_row = cc in no_access_end a same)
-peel_accesses (a ∷ as) [] bs (d ∷ ds) l others fits e = absurd (let same : access_row a ≡ board_row d = cc in no_access_board a d same)
-peel_accesses (a ∷ as) (c ∷ cs) bs ds l others fits e = let rest : map access_row as ++ (boards_rows bs ++ (l ∷ others)) ≡ map access_row cs ++ (boards_rows ds ++ (end_row ∷ [])) = cc in peel_accesses as cs bs ds l others fits.1 rest
+peel_accesses (a ∷ ps) [] bs [] l others fits e = absurd (let same : access_row a ≡ end_row = cc in no_access_end a same)
+peel_accesses (a ∷ ps) [] bs (d ∷ ds) l others fits e = absurd (let same : access_row a ≡ board_row d = cc in no_access_board a d same)
+peel_accesses (a ∷ ps) (c ∷ cs) bs ds l others fits e = let rest : map access_row ps ++ (boards_rows bs ++ (l ∷ others)) ≡ map access_row cs ++ (boards_rows ds ++ (end_row ∷ [])) = cc in peel_accesses ps cs bs ds l others fits.1 rest
 
 longer : (b : BoardText) (bs : List BoardText) (l : Words) (others : List Words) → InBoards bs l others → InBoards (b ∷ bs) l others
 longer b bs l others (board c fits e) = board c fits e
