@@ -32,9 +32,9 @@ abbrev NoAccessRow : List Words → Type 0
 NoAccessRow Y = (a : Access) (rest : List Words) → Y ≡ access_row a ∷ rest → ⊥
 
 peel_words : (ws vs : List (ℕ × ℕ)) (X Y : List Words) → AllByRecursion WordFits vs → NoWordRow Y → map word_row ws ++ X ≡ map word_row vs ++ Y → (rest : List (ℕ × ℕ)) × AllByRecursion WordFits rest × (X ≡ map word_row rest ++ Y)
-peel_words [] vs X Y fits no e = (vs, fits, e)
-peel_words (w ∷ ws) [] X Y fits no e = absurd (no w (map word_row ws ++ X) (sym e))
-peel_words (w ∷ ws) (v ∷ vs) X Y fits no e = let rest : map word_row ws ++ X ≡ map word_row vs ++ Y = cc in peel_words ws vs X Y fits.1 no rest
+peel_words [] vs X Y fits none e = (vs, fits, e)
+peel_words (w ∷ ws) [] X Y fits none e = absurd (none w (map word_row ws ++ X) (sym e))
+peel_words (w ∷ ws) (v ∷ vs) X Y fits none e = let rest : map word_row ws ++ X ≡ map word_row vs ++ Y = cc in peel_words ws vs X Y fits.1 none rest
 
 no_cell_end : (c : CellLine) → cell_words c ≡ end_row → ⊥
 no_cell_end (local s e alts) h = cc
@@ -51,14 +51,14 @@ table_parts : (t : TableText) (X : List Words) → table_rows t ++ X ≡ head_ro
 table_parts t X = append_assoc (open_table_rows t) (end_row ∷ []) X
 
 pub peel_tables : (ts us : List TableText) (X Y : List Words) → AllByRecursion TableFits us → NoHeadRow Y → tables_rows ts ++ X ≡ tables_rows us ++ Y → (rest : List TableText) × AllByRecursion TableFits rest × (X ≡ tables_rows rest ++ Y)
-peel_tables [] us X Y fits no e = (us, fits, e)
-peel_tables (t ∷ ts) [] X Y fits no e =
-    absurd (no t.name (map cell_words t.cells ++ (end_row ∷ (tables_rows ts ++ X))) (sym e ∙ (append_assoc (table_rows t) (tables_rows ts) X ∙ table_parts t (tables_rows ts ++ X))))
-peel_tables (t ∷ ts) (u ∷ us) X Y fits no e =
+peel_tables [] us X Y fits none e = (us, fits, e)
+peel_tables (t ∷ ts) [] X Y fits none e =
+    absurd (none t.name (map cell_words t.cells ++ (end_row ∷ (tables_rows ts ++ X))) (sym e ∙ (append_assoc (table_rows t) (tables_rows ts) X ∙ table_parts t (tables_rows ts ++ X))))
+peel_tables (t ∷ ts) (u ∷ us) X Y fits none e =
     let both : head_row t.name ∷ (map cell_words t.cells ++ (end_row ∷ (tables_rows ts ++ X))) ≡ head_row u.name ∷ (map cell_words u.cells ++ (end_row ∷ (tables_rows us ++ Y))) =
     sym (append_assoc (table_rows t) (tables_rows ts) X ∙ table_parts t (tables_rows ts ++ X)) ∙ (e ∙ (append_assoc (table_rows u) (tables_rows us) Y ∙ table_parts u (tables_rows us ++ Y))) in
     let rest : map cell_words t.cells ++ (end_row ∷ (tables_rows ts ++ X)) ≡ map cell_words u.cells ++ (end_row ∷ (tables_rows us ++ Y)) = cc in
-    peel_tables ts us X Y fits.1 no (peel_cells t.cells u.cells (tables_rows ts ++ X) (tables_rows us ++ Y) rest)
+    peel_tables ts us X Y fits.1 none (peel_cells t.cells u.cells (tables_rows ts ++ X) (tables_rows us ++ Y) rest)
 
 -- what can stand in a table behind some of its cell lines
 pub data InTable (l : Words) : Type 0 where
@@ -66,16 +66,16 @@ pub data InTable (l : Words) : Type 0 where
   closes : l ≡ end_row → InTable l
 
 pub table_follows : (name : List ℕ) (cs : List CellLine) (l : Words) (others : List Words) (us : List TableText) (Y : List Words) → AllByRecursion TableFits us → NoHeadRow Y → open_table_rows (table_text name cs) ++ (l ∷ others) ≡ tables_rows us ++ Y → InTable l
-table_follows name cs l others [] Y fits no e = absurd (no name (map cell_words cs ++ (l ∷ others)) (sym e))
-table_follows name cs l others (u ∷ us) Y fits no e =
+table_follows name cs l others [] Y fits none e = absurd (none name (map cell_words cs ++ (l ∷ others)) (sym e))
+table_follows name cs l others (u ∷ us) Y fits none e =
     let both : head_row name ∷ (map cell_words cs ++ (l ∷ others)) ≡ head_row u.name ∷ (map cell_words u.cells ++ (end_row ∷ (tables_rows us ++ Y))) = e ∙ (append_assoc (table_rows u) (tables_rows us) Y ∙ table_parts u (tables_rows us ++ Y)) in
     let rest : map cell_words cs ++ (l ∷ others) ≡ map cell_words u.cells ++ (end_row ∷ (tables_rows us ++ Y)) = cc in
     let both_fit = fits.0 in
     go cs u.cells both_fit.cells rest
   where
     go : (cs ds : List CellLine) → AllByRecursion HasAlternative ds → map cell_words cs ++ (l ∷ others) ≡ map cell_words ds ++ (end_row ∷ (tables_rows us ++ Y)) → InTable l
-    go [] [] some e = closes cc
-    go [] (d ∷ ds) some e = cell d some.0 cc
+    go [] [] some e = let a : l ≡ end_row = cc in closes a
+    go [] (d ∷ ds) some e = let a : l ≡ cell_words d = cc in cell d some.0 a
     go (c ∷ cs) [] some e = absurd (let same : cell_words c ≡ end_row = cc in no_cell_end c same)
     go (c ∷ cs) (d ∷ ds) some e = let rest : map cell_words cs ++ (l ∷ others) ≡ map cell_words ds ++ (end_row ∷ (tables_rows us ++ Y)) = cc in go cs ds some.1 rest
 
@@ -118,8 +118,8 @@ longer b bs l others (access a fits e some) = access a fits e (omega arith)
 longer b bs l others (ends e none) = ends e none
 
 boards_follow : (bs ds : List BoardText) (l : Words) (others : List Words) → AllByRecursion BoardFits ds → boards_rows bs ++ (l ∷ others) ≡ boards_rows ds ++ (end_row ∷ []) → InBoards bs l others
-boards_follow [] [] l others fits e = ends cc cc
-boards_follow [] (d ∷ ds) l others fits e = board d fits.0 cc
+boards_follow [] [] l others fits e = let a : l ≡ end_row = cc in let b : others ≡ [] = cc in ends a b
+boards_follow [] (d ∷ ds) l others fits e = let a : l ≡ board_row d = cc in board d fits.0 a
 boards_follow (b ∷ bs) [] l others fits e = absurd cc
 boards_follow (b ∷ bs) (d ∷ ds) l others fits e =
     let both : board_row b ∷ (map access_row b.script ++ (boards_rows bs ++ (l ∷ others))) ≡ board_row d ∷ (map access_row d.script ++ (boards_rows ds ++ (end_row ∷ []))) =
@@ -172,7 +172,7 @@ follows s r l others fits e = words (behind s r (l ∷ others) fits e)
   where
     tables : (us : List TableText) (ds : List BoardText) → AllByRecursion TableFits us → AllByRecursion BoardFits ds → (bs : List BoardText) → s.boards ≡ bs → boards_rows bs ++ (l ∷ others) ≡ tables_rows us ++ (boards_rows ds ++ (end_row ∷ [])) → Follows s l others
     tables [] ds fu fd bs same e = next (subst (λ (x : List BoardText). InBoards x l others) (sym same) (boards_follow bs ds l others fd e))
-    tables (u ∷ us) ds fu fd [] same e = let fit = fu.0 in head u.name fit.name cc same
+    tables (u ∷ us) ds fu fd [] same e = let fit = fu.0 in let here : l ≡ head_row u.name = cc in head u.name fit.name here same
     tables (u ∷ us) ds fu fd (b ∷ bs) same e = absurd cc
 
     no_words : (vs : List (ℕ × ℕ)) (us : List TableText) (ds : List BoardText) → AllByRecursion WordFits vs → AllByRecursion TableFits us → AllByRecursion BoardFits ds → (ts : List TableText) (bs : List BoardText) → s.tables ≡ ts → s.boards ≡ bs
@@ -180,7 +180,7 @@ follows s r l others fits e = words (behind s r (l ∷ others) fits e)
     no_words [] us ds fv fu fd ts bs st sb e =
         let p = peel_tables ts us (boards_rows bs ++ (l ∷ others)) (boards_rows ds ++ (end_row ∷ [])) fu (no_head_boards ds) e in
         tables p.0 ds p.1 fd bs sb p.2
-    no_words (v ∷ vs) us ds fv fu fd [] [] st sb e = word v fv.0 cc st sb
+    no_words (v ∷ vs) us ds fv fu fd [] [] st sb e = (let here : l ≡ word_row v = cc in word v fv.0 here st sb)
     no_words (v ∷ vs) us ds fv fu fd [] (b ∷ bs) st sb e = absurd cc
     no_words (v ∷ vs) us ds fv fu fd (t ∷ ts) bs st sb e = absurd cc
 

@@ -18,3 +18,6 @@ pub mod WrittenTables
 pub mod WrittenBoards
 pub mod WrittenRows
 pub mod WrittenSetup
+pub mod LinesAgain
+pub mod RowsAgain
+pub mod ReadAgain
