@@ -12,6 +12,7 @@ pub mod SetupAgain
 pub mod Setups
 pub mod Books
 pub mod Follows
+pub mod OneText
 pub mod Writes
 pub mod WrittenWords
 pub mod WrittenTables

@@ -1,5 +1,5 @@
 use Rattle.setup_text.proofs.Books.{is_spelled, is_read}
-use Rattle.setup_text.proofs.Follows.{follows}
+use Rattle.setup_text.proofs.OneText.{breaks_body}
 use Rattle.setup_text.proofs.book.read_book.Goals as goal
 
 pub returns-clause-spelled : goal.returns-clause-spelled
