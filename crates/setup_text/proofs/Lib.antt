@@ -13,6 +13,9 @@ pub mod Setups
 pub mod Books
 pub mod Follows
 pub mod OneText
+pub mod OpenTables
+pub mod HeadLines
+pub mod BookFaults
 pub mod Writes
 pub mod WrittenWords
 pub mod WrittenTables
