@@ -16,6 +16,7 @@ pub mod OneText
 pub mod OpenTables
 pub mod HeadLines
 pub mod BookFaults
+pub mod LineFaults
 pub mod Writes
 pub mod WrittenWords
 pub mod WrittenTables
