@@ -67,11 +67,8 @@ fn whole(alloc: Global, trace: &[u8]) -> Result<Result<usize, ReplayFault>, Fail
 fn in_pieces(alloc: Global, trace: &[u8], size: usize) -> Result<Result<usize, ReplayFault>, Fail> {
     let machine = opened(alloc)?;
     let mut replay = Replay::start(machine);
-    let mut rest = trace;
-    while !rest.is_empty() {
-        let (piece, behind) = rest.split_at(size.max(1).min(rest.len()));
+    for piece in trace.chunks(size.max(1)) {
         replay.feed(piece);
-        rest = behind;
     }
     Ok(told(replay.finish()))
 }
