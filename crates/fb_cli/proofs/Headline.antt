@@ -14,9 +14,9 @@ use Rattle.fb_cli.specs.declared.answers.Answer.TheVariants.{Said, Ran}
 use Rattle.fb_cli.specs.declared.answers.Refusal.TheVariants.{NoRow, Unread, NoMemory}
 use Rattle.fb_cli.specs.declared.answers.Reply.{Reply}
 use Rattle.fb_cli.specs.declared.answers.Reply.TheVariants.{Answered, Refused}
-use Rattle.fb_cli.specs.Output.{Command, check, show, run}
+use Rattle.fb_cli.specs.Output.{Command, check, show, run, run_seeded, make, tally}
 use Rattle.fb_cli.specs.Answers.{WrittenAs, reply_output}
-use Rattle.fb_cli.specs.Headline.{RunHolds, RepliesRun, PrintsRun, CommandWrote}
+use Rattle.fb_cli.specs.Headline.{RunHolds, RunsFile, RepliesRun, RunWrote, PrintsRun, CommandWrote}
 
 -- The first events of a run are a run.
 front : (setup : Setup) (c : Configuration) (before rest : List Event) (last : Configuration) → Leads setup c (before ++ rest) last → Leads setup c before (after_all c before)
@@ -45,20 +45,20 @@ holds setup events well accepted runs complete spelled legal = record {
 }
 
 -- A reply to `run` that ended with 0 was a run, and was printed.
-run_wrote : (name schedule : List ℕ) (bytes_of : List ℕ → List ℕ) (B : Type 0) (before after : Option (List ℕ)) (reply : Reply) (answer : ℕ)
-    → RepliesRun (Some (run name schedule)) (Some bytes_of) reply → WrittenAs (reply_output reply) B before after answer → PrintsRun reply answer
-    → CommandWrote (Some (run name schedule)) bytes_of before after answer
-run_wrote name schedule bytes_of B before after (Answered (Said status text)) answer some (inl (is, taken)) prints = λ zero. absurd (omega (arith, some, is, zero))
-run_wrote name schedule bytes_of B before after (Answered (Said status text)) answer some (inr (is, rose, front)) prints = λ zero. absurd (omega (arith, is, zero))
-run_wrote name schedule bytes_of B before after (Answered (Ran machine line)) answer setup (inl (is, taken)) prints = λ zero.
+run_wrote : (name : List ℕ) (bytes_of : List ℕ → List ℕ) (B : Type 0) (before after : Option (List ℕ)) (reply : Reply) (answer : ℕ)
+    → RunsFile (Some bytes_of) name reply → WrittenAs (reply_output reply) B before after answer → PrintsRun reply answer
+    → answer ≡ 0 → RunWrote name bytes_of before after
+run_wrote name bytes_of B before after (Answered (Said status text)) answer some (inl (is, taken)) prints = λ zero. absurd (omega (arith, some, is, zero))
+run_wrote name bytes_of B before after (Answered (Said status text)) answer some (inr (is, rose, front)) prints = λ zero. absurd (omega (arith, is, zero))
+run_wrote name bytes_of B before after (Answered (Ran machine line)) answer setup (inl (is, taken)) prints = λ zero.
     (machine.setup, setup.1, (_, taken, record { events = machine.journal; holds = prints zero; text = refl }))
-run_wrote name schedule bytes_of B before after (Answered (Ran machine line)) answer setup (inr (is, rose, front)) prints = λ zero. absurd (omega (arith, is, zero))
-run_wrote name schedule bytes_of B before after (Refused NoRow) answer some (inl (is, taken)) prints = λ zero. absurd (omega (arith, is, zero))
-run_wrote name schedule bytes_of B before after (Refused NoRow) answer some (inr (is, rose, front)) prints = λ zero. absurd (omega (arith, is, zero))
-run_wrote name schedule bytes_of B before after (Refused (Unread role)) answer some (inl (is, taken)) prints = λ zero. absurd (omega (arith, is, zero))
-run_wrote name schedule bytes_of B before after (Refused (Unread role)) answer some (inr (is, rose, front)) prints = λ zero. absurd (omega (arith, is, zero))
-run_wrote name schedule bytes_of B before after (Refused NoMemory) answer some (inl (is, taken)) prints = λ zero. absurd (omega (arith, is, zero))
-run_wrote name schedule bytes_of B before after (Refused NoMemory) answer some (inr (is, rose, front)) prints = λ zero. absurd (omega (arith, is, zero))
+run_wrote name bytes_of B before after (Answered (Ran machine line)) answer setup (inr (is, rose, front)) prints = λ zero. absurd (omega (arith, is, zero))
+run_wrote name bytes_of B before after (Refused NoRow) answer some (inl (is, taken)) prints = λ zero. absurd (omega (arith, is, zero))
+run_wrote name bytes_of B before after (Refused NoRow) answer some (inr (is, rose, front)) prints = λ zero. absurd (omega (arith, is, zero))
+run_wrote name bytes_of B before after (Refused (Unread role)) answer some (inl (is, taken)) prints = λ zero. absurd (omega (arith, is, zero))
+run_wrote name bytes_of B before after (Refused (Unread role)) answer some (inr (is, rose, front)) prints = λ zero. absurd (omega (arith, is, zero))
+run_wrote name bytes_of B before after (Refused NoMemory) answer some (inl (is, taken)) prints = λ zero. absurd (omega (arith, is, zero))
+run_wrote name bytes_of B before after (Refused NoMemory) answer some (inr (is, rose, front)) prints = λ zero. absurd (omega (arith, is, zero))
 
 pub wrote : (command : Option Command) (file : Option (List ℕ → List ℕ)) (B : Type 0) (before after : Option (List ℕ)) (reply : Reply) (answer : ℕ)
     → RepliesRun command file reply → WrittenAs (reply_output reply) B before after answer → PrintsRun reply answer
@@ -67,5 +67,7 @@ wrote command None B before after reply answer replies written prints = tt
 wrote None (Some bytes_of) B before after reply answer replies written prints = tt
 wrote (Some (check setup)) (Some bytes_of) B before after reply answer replies written prints = tt
 wrote (Some (show setup)) (Some bytes_of) B before after reply answer replies written prints = tt
-wrote (Some (run setup schedule)) (Some bytes_of) B before after reply answer replies written prints =
-    run_wrote setup schedule bytes_of B before after reply answer replies written prints
+wrote (Some (run setup schedule)) (Some bytes_of) B before after reply answer replies written prints = run_wrote setup bytes_of B before after reply answer replies written prints
+wrote (Some (run_seeded setup seed)) (Some bytes_of) B before after reply answer replies written prints = run_wrote setup bytes_of B before after reply answer replies written prints
+wrote (Some (make seed)) (Some bytes_of) B before after reply answer replies written prints = tt
+wrote (Some (tally seed)) (Some bytes_of) B before after reply answer replies written prints = tt

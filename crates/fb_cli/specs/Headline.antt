@@ -17,7 +17,7 @@ use Rattle.fb_cli.specs.declared.answers.Answer.{Answer}
 use Rattle.fb_cli.specs.declared.answers.Answer.TheVariants.{Said, Ran}
 use Rattle.fb_cli.specs.declared.answers.Reply.{Reply}
 use Rattle.fb_cli.specs.declared.answers.Reply.TheVariants.{Answered, Refused}
-use Rattle.fb_cli.specs.Output.{Command, check, show, run}
+use Rattle.fb_cli.specs.Output.{Command, check, show, run, run_seeded, make, tally}
 use Rattle.fb_cli.specs.Opening.{OfFile, AreSetup}
 
 -- What holds of a complete run of a setup with these events: each is a step and has its line, each script is done whole, once and in order, each read gives the latest earlier write, after each event the configuration is sound, which includes that no line has two owners or a shared exclusive copy, and each grant is won by the highest number that competes.
@@ -62,6 +62,9 @@ RepliesRun None file reply = Unit {0}
 RepliesRun (Some (check setup)) file reply = Unit {0}
 RepliesRun (Some (show setup)) file reply = Unit {0}
 RepliesRun (Some (run setup schedule)) file reply = RunsFile file setup reply
+RepliesRun (Some (run_seeded setup seed)) file reply = RunsFile file setup reply
+RepliesRun (Some (make seed)) file reply = Unit {0}
+RepliesRun (Some (tally seed)) file reply = Unit {0}
 
 -- What was written by `run` with status 0 is the text of a run of the setup of its file.
 abbrev pub RunWrote : List ℕ → (List ℕ → List ℕ) → Option (List ℕ) → Option (List ℕ) → Type 0
@@ -74,3 +77,6 @@ CommandWrote None bytes_of before after status = Unit {0}
 CommandWrote (Some (check setup)) bytes_of before after status = Unit {0}
 CommandWrote (Some (show setup)) bytes_of before after status = Unit {0}
 CommandWrote (Some (run setup schedule)) bytes_of before after status = status ≡ 0 → RunWrote setup bytes_of before after
+CommandWrote (Some (run_seeded setup seed)) bytes_of before after status = status ≡ 0 → RunWrote setup bytes_of before after
+CommandWrote (Some (make seed)) bytes_of before after status = Unit {0}
+CommandWrote (Some (tally seed)) bytes_of before after status = Unit {0}
