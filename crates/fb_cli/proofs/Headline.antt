@@ -10,11 +10,11 @@ use Rattle.bus_model.specs.Steps.{Can, after}
 use Rattle.bus_model.specs.Runs.{Leads, Run, Complete, after_all}
 use Rattle.bus_model.specs.Entries.{entries, Legal}
 use Rattle.coherence.proofs.Steps.{every_run_is_sound, complete_runs_have_their_scripts}
-use Rattle.fb_cli.specs.declared.answers.Answer.TheVariants.{Said, Ran}
+use Rattle.fb_cli.specs.declared.answers.Answer.TheVariants.{Said, Ran, Replayed}
 use Rattle.fb_cli.specs.declared.answers.Refusal.TheVariants.{NoRow, Unread, NoMemory}
 use Rattle.fb_cli.specs.declared.answers.Reply.{Reply}
 use Rattle.fb_cli.specs.declared.answers.Reply.TheVariants.{Answered, Refused}
-use Rattle.fb_cli.specs.Output.{Command, check, show, run, run_seeded, make, tally}
+use Rattle.fb_cli.specs.Output.{Command, check, show, run, run_seeded, replay, make, tally}
 use Rattle.fb_cli.specs.Answers.{WrittenAs, reply_output}
 use Rattle.fb_cli.specs.Headline.{RunHolds, RunsFile, RepliesRun, RunWrote, PrintsRun, CommandWrote}
 
@@ -53,6 +53,7 @@ run_wrote name bytes_of B before after (Answered (Said status text)) answer some
 run_wrote name bytes_of B before after (Answered (Ran machine line)) answer setup (inl (is, taken)) prints = λ zero.
     (machine.setup, setup.1, (_, taken, record { events = machine.journal; holds = prints zero; text = refl }))
 run_wrote name bytes_of B before after (Answered (Ran machine line)) answer setup (inr (is, rose, front)) prints = λ zero. absurd (omega (arith, is, zero))
+run_wrote name bytes_of B before after (Answered (Replayed machine line)) answer none written prints = absurd none
 run_wrote name bytes_of B before after (Refused NoRow) answer some (inl (is, taken)) prints = λ zero. absurd (omega (arith, is, zero))
 run_wrote name bytes_of B before after (Refused NoRow) answer some (inr (is, rose, front)) prints = λ zero. absurd (omega (arith, is, zero))
 run_wrote name bytes_of B before after (Refused (Unread role)) answer some (inl (is, taken)) prints = λ zero. absurd (omega (arith, is, zero))
@@ -69,5 +70,6 @@ wrote (Some (check setup)) (Some bytes_of) B before after reply answer replies w
 wrote (Some (show setup)) (Some bytes_of) B before after reply answer replies written prints = tt
 wrote (Some (run setup schedule)) (Some bytes_of) B before after reply answer replies written prints = run_wrote setup bytes_of B before after reply answer replies written prints
 wrote (Some (run_seeded setup seed)) (Some bytes_of) B before after reply answer replies written prints = run_wrote setup bytes_of B before after reply answer replies written prints
+wrote (Some (replay setup trace)) (Some bytes_of) B before after reply answer replies written prints = tt
 wrote (Some (make seed)) (Some bytes_of) B before after reply answer replies written prints = tt
 wrote (Some (tally seed)) (Some bytes_of) B before after reply answer replies written prints = tt

@@ -14,10 +14,10 @@ use Rattle.bus_model.specs.Entries.{Entry, entries, entries_of, Legal}
 use Rattle.bus_model.specs.Soundness.{Sound}
 use Rattle.run_text.specs.RunText.{run_text}
 use Rattle.fb_cli.specs.declared.answers.Answer.{Answer}
-use Rattle.fb_cli.specs.declared.answers.Answer.TheVariants.{Said, Ran}
+use Rattle.fb_cli.specs.declared.answers.Answer.TheVariants.{Said, Ran, Replayed}
 use Rattle.fb_cli.specs.declared.answers.Reply.{Reply}
 use Rattle.fb_cli.specs.declared.answers.Reply.TheVariants.{Answered, Refused}
-use Rattle.fb_cli.specs.Output.{Command, check, show, run, run_seeded, make, tally}
+use Rattle.fb_cli.specs.Output.{Command, check, show, run, run_seeded, replay, make, tally}
 use Rattle.fb_cli.specs.Opening.{OfFile, AreSetup}
 
 -- What holds of a complete run of a setup with these events: each is a step and has its line, each script is done whole, once and in order, each read gives the latest earlier write, after each event the configuration is sound, which includes that no line has two owners or a shared exclusive copy, and each grant is won by the highest number that competes.
@@ -42,18 +42,21 @@ pub record IsTextOfRun (setup : Setup) (bytes : List ℕ) : Type 0 where
 abbrev pub RunsFile : Option (List ℕ → List ℕ) → List ℕ → Reply → Type 0
 RunsFile file name (Answered (Said status text)) = 0 < status
 RunsFile file name (Answered (Ran machine line)) = OfFile file name (AreSetup machine.setup)
+RunsFile file name (Answered (Replayed machine line)) = ⊥
 RunsFile file name (Refused refusal) = Unit {0}
 
 -- A reply to turns of a setup is its run, or a refusal.
 abbrev pub RunsSetup : Setup → Reply → Type 0
 RunsSetup setup (Answered (Said status text)) = 0 < status
 RunsSetup setup (Answered (Ran machine line)) = machine.setup ≡ setup
+RunsSetup setup (Answered (Replayed machine line)) = ⊥
 RunsSetup setup (Refused refusal) = Unit {0}
 
 -- The run of a machine was printed, with all that it promises.
 abbrev pub PrintsRun : Reply → ℕ → Type 0
 PrintsRun (Answered (Said status text)) answer = Unit {0}
 PrintsRun (Answered (Ran machine line)) answer = answer ≡ 0 → RunHolds machine.setup machine.journal
+PrintsRun (Answered (Replayed machine line)) answer = Unit {0}
 PrintsRun (Refused refusal) answer = Unit {0}
 
 -- A reply to the words is the run of the setup that they name, or a refusal, where they ask for a run.
@@ -63,6 +66,7 @@ RepliesRun (Some (check setup)) file reply = Unit {0}
 RepliesRun (Some (show setup)) file reply = Unit {0}
 RepliesRun (Some (run setup schedule)) file reply = RunsFile file setup reply
 RepliesRun (Some (run_seeded setup seed)) file reply = RunsFile file setup reply
+RepliesRun (Some (replay setup trace)) file reply = Unit {0}
 RepliesRun (Some (make seed)) file reply = Unit {0}
 RepliesRun (Some (tally seed)) file reply = Unit {0}
 
@@ -78,5 +82,6 @@ CommandWrote (Some (check setup)) bytes_of before after status = Unit {0}
 CommandWrote (Some (show setup)) bytes_of before after status = Unit {0}
 CommandWrote (Some (run setup schedule)) bytes_of before after status = status ≡ 0 → RunWrote setup bytes_of before after
 CommandWrote (Some (run_seeded setup seed)) bytes_of before after status = status ≡ 0 → RunWrote setup bytes_of before after
+CommandWrote (Some (replay setup trace)) bytes_of before after status = Unit {0}
 CommandWrote (Some (make seed)) bytes_of before after status = Unit {0}
 CommandWrote (Some (tally seed)) bytes_of before after status = Unit {0}

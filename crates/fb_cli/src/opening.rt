@@ -13,13 +13,14 @@ use setup_text::{Setup, SetupFault, read_schedule, read_setup};
 use std::alloc::Global;
 
 /// The most bytes of a file.
-fn limit_of(role: Role) -> u64
+pub fn limit_of(role: Role) -> u64
     ensures limit { result ≡ limit_of role }
     ensures small { result < 2 ^ 31 }
 {
     match role {
         Role::Setup => 8_388_608,
         Role::Schedule => 33_554_432,
+        Role::Trace => 268_435_456,
     }
 }
 

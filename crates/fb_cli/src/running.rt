@@ -39,7 +39,7 @@ pub fn start(alloc: Global, setup: Setup) -> Result<Machine, NoMemory>
 }
 
 /// Room for a line.
-fn line(alloc: Global) -> Result<Text, NoMemory>
+pub fn line(alloc: Global) -> Result<Text, NoMemory>
     ensures { IfOk result IsReady }
 {
     let mut line = Text::new(alloc);
