@@ -22,3 +22,4 @@ pub mod Filling
 pub mod Keeping
 pub mod Moving
 pub mod Reading
+pub mod Opening
