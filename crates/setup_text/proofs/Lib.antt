@@ -17,6 +17,7 @@ pub mod OpenTables
 pub mod HeadLines
 pub mod BookFaults
 pub mod LineFaults
+pub mod BoardFaults
 pub mod Writes
 pub mod WrittenWords
 pub mod WrittenTables
