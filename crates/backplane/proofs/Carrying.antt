@@ -1,5 +1,5 @@
 -- What the facts of a data phase tell together: it may happen.
-use Rattle.std.proofs.Common.{Bool, List, None, Option, Some, [], ap, refl, subst, sym, true, ℕ, ◌∙◌, ◌∷◌, ◌≡◌}
+use Rattle.std.proofs.Common.{Bool, Option, [], ap, refl, subst, sym, true, ℕ, ◌∙◌, ◌∷◌, ◌≡◌}
 use Rattle.std.proofs.lemmas.Option.{same_Some}
 use Rattle.std.specs.Prelude.{IsSome, is_some, ◌↔◌}
 use Rattle.bus_signals.specs.declared.Access.{Access}
@@ -8,16 +8,16 @@ use Rattle.bus_model.specs.Events.{Board, Carried, Done, Memory, Nobody, Source,
 use Rattle.bus_model.specs.Configuration.{Configuration, Connected, present_access}
 use Rattle.bus_model.specs.Carrying.{carried_of, done_of, source_of, source_words}
 use Rattle.bus_model.specs.Steps.{CanData}
-use Rattle.board.specs.Rack.{Rack}
 use Rattle.data_phase.specs.Seen.{carried_for, seen}
 use Rattle.backplane.specs.declared.parts.Parts.{Parts}
 use Rattle.backplane.specs.Parts.{PartsShow, connection_in}
 use Rattle.backplane.proofs.Deciding.{all_of, itself, none_left, one_more}
 
 pub takers_told : (a b : Takers) (memory boards : Bool) → ((memory ≡ true) ↔ (a.memory ≡ b.memory)) → ((boards ≡ true) ↔ (a.boards ≡ b.boards)) → (all_of (memory ∷ boards ∷ []) ≡ true) ↔ (a ≡ b)
-takers_told a b memory boards m p =
-    (λ h. let f = facts.0 h in let x = f.0 in let y = f.1.0 in λ i. record { memory = x i; boards = y i },
-        λ e. facts.1 (ap (λ (t : Takers). t.memory) e, (ap (λ (t : Takers). t.boards) e, tt)))
+takers_told a b memory boards m p = (
+  λ h. let f = facts.0 h in let x = f.0 in let y = f.1.0 in λ i. record { memory = x i; boards = y i },
+  λ e. facts.1 (ap (λ (t : Takers). t.memory) e, (ap (λ (t : Takers). t.boards) e, tt)),
+)
   where
     facts : (all_of (memory ∷ boards ∷ []) ≡ true) ↔ ((a.memory ≡ b.memory) × ((a.boards ≡ b.boards) × Unit {0}))
     facts = one_more memory (boards ∷ []) _ _ m (one_more boards [] _ _ p none_left)
@@ -53,9 +53,19 @@ carried_told a b master event line source takers states done m e l s t st d = (�
         λ i. record { master = m i; event = e i; line = l i; source = s i; takers = t i; states = st i; done = d i }
 
     parts : a ≡ b → Facts
-    parts p =
-        (ap (λ (x : Carried). x.master) p, (ap (λ (x : Carried). x.event) p, (ap (λ (x : Carried). x.line) p, (ap (λ (x : Carried). x.source) p,
-        (ap (λ (x : Carried). x.takers) p, (ap (λ (x : Carried). x.states) p, (ap (λ (x : Carried). x.done) p, tt)))))))
+    parts p = (
+      ap (λ (x : Carried). x.master) p,
+      (
+        ap (λ (x : Carried). x.event) p,
+        (
+          ap (λ (x : Carried). x.line) p,
+          (
+            ap (λ (x : Carried). x.source) p,
+            (ap (λ (x : Carried). x.takers) p, (ap (λ (x : Carried). x.states) p, (ap (λ (x : Carried). x.done) p, tt))),
+          ),
+        ),
+      ),
+    )
 
 words_seen : (setup : Setup) (c : Configuration) (parts : Parts) → PartsShow setup c parts → (master line : ℕ) (source : Source) → source_words (seen parts.rack parts.memory) master line source ≡ source_words c master line source
 words_seen setup c parts shows master line Nobody = λ i. source_words (record { memory = []; rows = shows.rack.rows i; boards = []; phase = c.phase }) master line Nobody
@@ -73,7 +83,7 @@ connected_once : (t u : Transaction) → Connected t ≡ Connected u → t ≡ u
 connected_once t u e = same_Some t u (ap connection_in e)
 
 -- A data phase may happen exactly where it is what the model says.
-only_one : (setup : Setup) (c : Configuration) (t : Transaction) (e : Carried) → c.phase ≡ Connected t → (IsSome (present_access setup c.boards t.master) × (e ≡ carried_of setup c t)) ↔ ((u : Transaction) × CanData setup c e u)
+pub only_one : (setup : Setup) (c : Configuration) (t : Transaction) (e : Carried) → c.phase ≡ Connected t → (IsSome (present_access setup c.boards t.master) × (e ≡ carried_of setup c t)) ↔ ((u : Transaction) × CanData setup c e u)
 only_one setup c t e phase = (λ p. (t, subst (λ x. CanData setup c x t) (sym p.1) (own p.0)), back)
   where
     own : IsSome (present_access setup c.boards t.master) → CanData setup c (carried_of setup c t) t

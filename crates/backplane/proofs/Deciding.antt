@@ -1,5 +1,5 @@
 -- What tests tell together.
-use Rattle.std.proofs.Common.{Bool, List, [], ap, false, not, refl, true, ◌&&◌, ◌∙◌, ◌∷◌, ◌≡◌, sym}
+use Rattle.std.proofs.Common.{Bool, List, [], ap, false, not, refl, true, ◌∙◌, ◌∷◌, ◌≡◌, sym}
 use Rattle.std.proofs.lemmas.Bool.{and_from, and_parts, not-true}
 use Rattle.std.specs.Prelude.{◌↔◌, ◌||◌}
 use Rattle.std.specs.List.{list_all}
@@ -12,9 +12,10 @@ pub none_left : (all_of [] ≡ true) ↔ Unit {0}
 none_left = (λ h. tt, λ u. refl)
 
 pub one_more : (b : Bool) (rest : List Bool) (P Q : Type 0) → ((b ≡ true) ↔ P) → ((all_of rest ≡ true) ↔ Q) → ((all_of (b ∷ rest) ≡ true) ↔ (P × Q))
-one_more b rest P Q d e =
-    (λ h. let p = and_parts b (all_of rest) h in (d.0 p.0, e.0 p.1),
-        λ h. and_from b (all_of rest) (d.1 h.0) (e.1 h.1))
+one_more b rest P Q d e = (
+  λ h. let p = and_parts b (all_of rest) h in (d.0 p.0, e.0 p.1),
+  λ h. and_from b (all_of rest) (d.1 h.0) (e.1 h.1),
+)
 
 -- A test that is another test tells the same.
 pub as_well : (a b : Bool) (P : Type 0) → a ≡ b → ((b ≡ true) ↔ P) → ((a ≡ true) ↔ P)

@@ -1,21 +1,19 @@
 -- What the facts of a grant tell together: it may happen.
-use Rattle.std.proofs.Common.{Bool, List, [], ap, arith, length, map, refl, subst, sym, true, ℕ, ◌∙◌, ◌∷◌, ◌≡◌, ◌≤◌, ◌&&◌, ◌==◌}
+use Rattle.std.proofs.Common.{Bool, List, [], ap, arith, length, refl, sym, true, ℕ, ◌∙◌, ◌∷◌, ◌≡◌, ◌&&◌, ◌==◌}
 use Rattle.std.proofs.lemmas.Bool.{and_from, and_parts, eq-eqb, eqb-true}
-use Rattle.std.specs.Prelude.{IsTrue, ◌↔◌}
+use Rattle.std.specs.Prelude.{◌↔◌}
 use Rattle.settling.specs.Settling.{highest, settled_lines, settled_rounds}
 use Rattle.arbiter.specs.Raised.{competitors}
 use Rattle.board.specs.Rack.{setup_of}
-use Rattle.bus_model.specs.Arbitration.{competing, competing_numbers}
 use Rattle.bus_model.specs.Configuration.{Configuration, Idle, is_raised}
-use Rattle.bus_model.specs.Setup.{Setup, board_places, number_of}
+use Rattle.bus_model.specs.Setup.{Setup, number_of}
 use Rattle.bus_model.specs.Steps.{CanGrant}
-use Rattle.coherence.proofs.Lists.{In, empty-none, filter-in, in-map}
-use Rattle.coherence.proofs.Places.{places-in}
 use Rattle.backplane.specs.declared.parts.Parts.{Parts}
 use Rattle.backplane.specs.Parts.{IsPartOf, PartsShow, phase_of}
 use Rattle.backplane.specs.Permits.{AreOfOneSetup, HasRaised, Wins, does_settle}
 use Rattle.backplane.proofs.Deciding.{all_of, none_left, one_more}
-use Rattle.backplane.proofs.Requesting.{compete_shown, raised_shown, raised_within}
+use Rattle.backplane.proofs.Grants.{competitors-shown, raised-shown, some-competes}
+use Rattle.backplane.proofs.Requesting.{raised_within}
 use Rattle.backplane.proofs.Shown.{number_shown}
 
 -- What a settled contest says of its numbers.
@@ -45,12 +43,9 @@ settled (n ∷ rest) number lines rounds some s =
     (eq-eqb rounds (settled_rounds numbers) s.rounds_settled)
 
 module _ (setup : Setup) (c : Configuration) (parts : Parts) (shows : PartsShow setup c parts) (one : AreOfOneSetup parts) (long : length c.boards ≡ length setup.boards) where
-  -- A board that has raised a request in the configuration has raised it in the parts, and the other way round.
+  -- A board has raised a request in the parts exactly where it has in the configuration.
   requested : (board : ℕ) → HasRaised parts board → is_raised c.boards board ≡ true
-  requested board h =
-      let specs = ap length shows.boards in
-      let high = h.there.rack in
-      sym (raised_shown setup c parts board shows h.there.low (omega arith)) ∙ h.raised
+  requested board h = sym (raised-shown setup c parts board shows h.there) ∙ h.raised
 
   requesting : (board : ℕ) → is_raised c.boards board ≡ true → HasRaised parts board
   requesting board h =
@@ -60,18 +55,11 @@ module _ (setup : Setup) (c : Configuration) (parts : Parts) (shows : PartsShow 
       let places = one.places in
       let low = within.0 in
       let high = within.1 in
-      record {
-        there = record { low = low; rack = omega arith; requests = omega arith; places = omega arith };
-        raised = raised_shown setup c parts board shows low high ∙ h;
-      }
+      let there : IsPartOf parts board = record { low = low; rack = omega arith; requests = omega arith; places = omega arith } in
+      record { there = there; raised = raised-shown setup c parts board shows there ∙ h }
 
   some_compete : (board : ℕ) → is_raised c.boards board ≡ true → competitors parts.requests ≡ [] → ⊥
-  some_compete board h none =
-      let within = raised_within c.boards board h in
-      let low = within.0 in
-      let high = within.1 in
-      let here : In board (competing setup c.boards) = filter-in (λ b. is_raised c.boards b) (board_places setup) board (places-in setup.boards 1 board low (omega arith)) h in
-      empty-none (competing_numbers setup c.boards) (number_of setup board) (in-map (λ b. number_of setup b) (competing setup c.boards) board here) (ap length (sym (compete_shown setup c parts shows long) ∙ none))
+  some_compete board h = let r = requesting board h in some-competes parts.requests board r.there.low r.there.requests r.raised
 
   pub grant_told : (by winner lines rounds : ℕ) (idle raised wins : Bool)
       → ((idle ≡ true) ↔ (phase_of parts.phase ≡ Idle)) → ((raised ≡ true) ↔ HasRaised parts by) → ((wins ≡ true) ↔ Wins parts winner lines rounds)
@@ -85,7 +73,7 @@ module _ (setup : Setup) (c : Configuration) (parts : Parts) (shows : PartsShow 
       build f =
           let won = f.1.1.0 in
           let s = settles (competitors parts.requests) (number_of (setup_of parts.rack) winner) lines rounds won.settles in
-          let compete = compete_shown setup c parts shows long in
+          let compete = competitors-shown setup c parts shows (sym long) in
           record {
             idle = sym shows.phase ∙ f.0;
             by_raised = requested by f.1.0;
@@ -97,14 +85,21 @@ module _ (setup : Setup) (c : Configuration) (parts : Parts) (shows : PartsShow 
 
       back : CanGrant setup c by winner lines rounds → (phase_of parts.phase ≡ Idle) × (HasRaised parts by × (Wins parts winner lines rounds × Unit {0}))
       back can =
-          let compete = sym (compete_shown setup c parts shows long) in
+          let compete = sym (competitors-shown setup c parts shows (sym long)) in
           let s : Settles (competitors parts.requests) (number_of (setup_of parts.rack) winner) lines rounds = record {
             number_highest = number_shown setup c parts shows winner ∙ can.winner_highest ∙ ap highest compete;
             lines_settled = can.lines_settled ∙ ap settled_lines compete;
             rounds_settled = can.rounds_settled ∙ ap settled_rounds compete;
-          } in
-          (shows.phase ∙ can.idle, (requesting by can.by_raised,
-          (record {
-            raised = requesting winner can.winner_raised;
-            settles = settled (competitors parts.requests) (number_of (setup_of parts.rack) winner) lines rounds (some_compete by can.by_raised) s;
-          }, tt)))
+          } in (
+            shows.phase ∙ can.idle,
+            (
+              requesting by can.by_raised,
+              (
+                record {
+                  raised = requesting winner can.winner_raised;
+                  settles = settled (competitors parts.requests) (number_of (setup_of parts.rack) winner) lines rounds (some_compete by can.by_raised) s;
+                },
+                tt,
+              ),
+            ),
+          )

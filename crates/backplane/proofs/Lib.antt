@@ -15,6 +15,7 @@ pub mod Connecting
 pub mod Carrying
 pub mod Answering
 pub mod Turning
+pub mod Permitted
 pub mod Listing
 pub mod Stepping
 pub mod Filling

@@ -1,5 +1,5 @@
 -- What the facts of an event tell together: the event may happen.
-use Rattle.std.proofs.Common.{Bool, List, None, Option, Some, [], ap, not, refl, subst, sym, true, ℕ, ◌∙◌, ◌∷◌, ◌≡◌, ◌||◌}
+use Rattle.std.proofs.Common.{Bool, None, Option, Some, [], ap, not, refl, subst, sym, true, ℕ, ◌∙◌, ◌∷◌, ◌≡◌, ◌||◌}
 use Rattle.std.proofs.lemmas.Option.{same_Some}
 use Rattle.std.specs.Prelude.{IsFalse, IsTrue, option_map, ◌↔◌}
 use Rattle.bus_signals.specs.declared.Access.{Access}
@@ -74,12 +74,22 @@ local_told setup c board access before next done present connected same alternat
     parts : CanLocal setup c board before next done → Facts
     parts can =
         let here : access ≡ done.access = same_Some access done.access (sym now ∙ can.present) in
-        let back : done.access ≡ access = sym here in
-        (here, (can.not_connected,
-        (subst (λ a. state_at c.rows board (access_line a) ≡ before) back can.state,
-        (subst (λ a. IsTrue (has_local (cell_of setup c.rows board a) (silently next))) back can.alternative,
-        (subst Quiet back can.held,
-        (subst (λ a. done.reply ≡ reply_of a (words_at c.rows board (access_line a))) back can.reply, tt))))))
+        let back : done.access ≡ access = sym here in (
+          here,
+          (
+            can.not_connected,
+            (
+              subst (λ a. state_at c.rows board (access_line a) ≡ before) back can.state,
+              (
+                subst (λ a. IsTrue (has_local (cell_of setup c.rows board a) (silently next))) back can.alternative,
+                (
+                  subst Quiet back can.held,
+                  (subst (λ a. done.reply ≡ reply_of a (words_at c.rows board (access_line a))) back can.reply, tt),
+                ),
+              ),
+            ),
+          ),
+        )
 
 -- A line and a state are those of the victim where the line is, and the state is that of the board's copy of it.
 pub victim_told : (setup : Setup) (n : ℕ) (c : Configuration) (board line : ℕ) (other : ℕ) (before : State) → RowsSound setup n c.rows c.boards
@@ -114,14 +124,17 @@ drop_told setup n c board line before access connected wants gone same clean hel
         (one_more (not held) [] _ _ (negated held _ d) none_left)))))
 
     build : Facts → (a : Access) × CanDrop setup c board line before a
-    build f = (access, record {
-      present = now;
-      not_connected = f.0;
-      wants = f.1.0;
-      victim = (victim_told setup n c board (access_line access) line before sound).0 (f.1.1.0, f.1.1.1.0);
-      clean = f.1.1.1.1.0;
-      not_held = f.1.1.1.1.1.0;
-    })
+    build f = (
+      access,
+      record {
+        present = now;
+        not_connected = f.0;
+        wants = f.1.0;
+        victim = (victim_told setup n c board (access_line access) line before sound).0 (f.1.1.0, f.1.1.1.0);
+        clean = f.1.1.1.1.0;
+        not_held = f.1.1.1.1.1.0;
+      },
+    )
 
     parts : (a : Access) × CanDrop setup c board line before a → Facts
     parts r =

@@ -34,9 +34,9 @@ pub more_turns : (m : Machine) (xs ys : List ℕ) → after_turns m (xs ++ ys) �
 more_turns m xs ys =
     let first = events_of_turns m.setup (configuration m) xs in
     let e : m.journal ++ events_of_turns m.setup (configuration m) (xs ++ ys) ≡ (m.journal ++ first) ++ events_of_turns m.setup (configuration (after_turns m xs)) ys =
-        ap (λ es. m.journal ++ es) (turns-append m.setup (configuration m) xs ys)
-        ∙ sym (append_assoc m.journal first (events_of_turns m.setup (after_all (configuration m) first) ys))
-        ∙ ap (λ c. (m.journal ++ first) ++ events_of_turns m.setup c ys) (sym (turned_configuration m xs)) in
+    ap (λ es. m.journal ++ es) (turns-append m.setup (configuration m) xs ys)
+    ∙ sym (append_assoc m.journal first (events_of_turns m.setup (after_all (configuration m) first) ys))
+    ∙ ap (λ c. (m.journal ++ first) ++ events_of_turns m.setup c ys) (sym (turned_configuration m xs)) in
     λ i. record { setup = m.setup; journal = e i }
 
 -- How many events a turn does.

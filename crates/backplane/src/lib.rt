@@ -11,5 +11,5 @@ mod phase;
 mod plan;
 
 pub use assembling::{AssembleFault, assemble};
-pub use machine::Machine;
+pub use machine::{Machine, NotARun};
 pub use moved::{Moved, Why};

@@ -11,9 +11,12 @@ use journal::Event;
 use std::marker::Model;
 
 mod advancing;
+mod applying;
 mod effects;
 mod reading;
 mod rounds;
+
+pub use applying::NotARun;
 
 /// A machine that runs a setup of accepted tables. Contracts see its setup and its journal; its configuration is the one
 /// that these two give.

@@ -16,7 +16,7 @@ use journal::{Answer, Answers, Connected};
 use moesi_state::Outcome;
 
 /// Whether another board than the master holds a line.
-fn is_other_holder(rack: &Rack, master: BoardNo, line: LineNo, board: BoardNo) -> bool
+pub fn is_other_holder(rack: &Rack, master: BoardNo, line: LineNo, board: BoardNo) -> bool
     requires { IsBoard rack.now board }
     ensures { result ≡ is_other_holder rack.now.rows master line board }
 {

@@ -8,6 +8,8 @@ use Rattle.std.specs.declared.option.Option.{Option}
 use Rattle.std.specs.Io.KnownBytes.{Appends}
 use Rattle.std.proofs.KnownBytes.{Appends-trans}
 use Rattle.fb_edge.specs.Outside.{Rose, AppendsFront}
+use Rattle.fb_edge.specs.declared.outside.PutFailed.{PutFailed}
+use Rattle.std.specs.Prelude.{Result}
 use Rattle.run_text.specs.Printing.{Prints, Printed}
 
 take-front : (xs ys : List ℕ) (k : ℕ) → (n : ℕ) × (take n (xs ++ ys) ≡ take k xs)
@@ -56,3 +58,40 @@ whole-behind f g h a b c first second whole x is before now =
       taken = subst (λ (t : List ℕ). Appends a c t) (sym is) (Appends-trans a b c first second before.taken now.whole);
       later = omega (arith, later, before.later);
     }
+
+-- What was taken whole is the answer.
+pub done-behind : (f g : ℕ) (a b : Option (List ℕ)) (text whole : List ℕ) → text ≡ whole → Prints f g a b text → Printed {T = Unit {0}} {E = PutFailed} f g a b whole (Ok tt)
+done-behind f g a b text whole is taken = record {
+  whole = subst (λ (t : List ℕ). Appends a b t) is taken.taken;
+  front = tt;
+  cause = record { later = taken.later; failed = tt };
+}
+
+-- Two texts that were taken one behind another.
+pub both-behind : (f g h : ℕ) (a b c : Option (List ℕ)) (first second : List ℕ) {T U E : Type 0} (x : T) (result : Result U E)
+    → Printed {T = T} {E = E} f g a b first (Ok x) → Printed {T = U} {E = E} g h b c second result → Printed {T = U} {E = E} f h a c (first ++ second) result
+both-behind f g h a b c first second x (Ok y) before now =
+    let later = now.cause.later in
+    let earlier = before.cause.later in
+    record {
+      whole = Appends-trans a b c first second before.whole now.whole;
+      front = tt;
+      cause = record { later = omega (arith, later, earlier); failed = tt };
+    }
+both-behind f g h a b c first second x (Err e) before now =
+    let later = now.cause.later in
+    let rose = now.cause.failed in
+    let earlier = before.cause.later in
+    record {
+      whole = tt;
+      front = front-then a b c first second before.whole now.front;
+      cause = record { later = omega (arith, later, earlier); failed = omega (arith, rose, earlier) };
+    }
+
+-- A first text that failed, whatever was to follow.
+pub failed-first : (f g : ℕ) (a b : Option (List ℕ)) (first second : List ℕ) {T U E : Type 0} (e : E) → Printed {T = T} {E = E} f g a b first (Err e) → Printed {T = U} {E = E} f g a b (first ++ second) (Err e)
+failed-first f g a b first second e now = record {
+  whole = tt;
+  front = front-more a b first second now.front;
+  cause = record { later = now.cause.later; failed = now.cause.failed };
+}

@@ -1,6 +1,6 @@
 //! The pieces of a run, printed line by line through one line of room.
 
-ghost use Rattle.std.specs.Prelude.{◌≡◌, ◌≤◌, ◌+◌, ◌++◌, [], length};
+ghost use Rattle.std.specs.Prelude.{◌≡◌, ◌≤◌, ◌+◌, ◌++◌, [], length, OnOk};
 ghost use Rattle.std.specs.List.{flat_map, AllByRecursion};
 ghost use Rattle.trace_text.specs.Ranges.{InRange};
 ghost use Rattle.trace_text.specs.Spelling.{line_of_event};
@@ -33,6 +33,7 @@ fn print_event<K: Sink>(event: &Event, sink: &mut K, line: &mut Text) -> Result<
     requires ready { IsReady line.old }
     requires spelled { IsTyped event.now → InRange event.now }
     ensures printed { Printed (K.faults sink.old) (K.faults sink.new) (K.taken sink.old) (K.taken sink.new) (line_of_event event.now) result }
+    ensures in_range { InRange event.now }
     ensures ready { IsReady line.new }
 {
     is_typed(event);
@@ -49,6 +50,8 @@ pub fn print_events<K: Sink>(
     requires ready { IsReady line.old }
     requires spelled { AllByRecursion (λ event. IsTyped event → InRange event) events.now }
     ensures printed { Printed (K.faults sink.old) (K.faults sink.new) (K.taken sink.old) (K.taken sink.new) (events_text events.now) result }
+    // Each event has its line.
+    ensures in_range { OnOk result (AllByRecursion InRange events.now) }
     ensures ready { IsReady line.new }
 {
     for event in events {

@@ -1,11 +1,13 @@
 //! A run printed from its machine.
 
-ghost use Rattle.std.specs.Prelude.{◌≡◌, ◌≤◌, ◌<◌, ◌+◌, ◌++◌, ◌∷◌, [], length, codes};
+ghost use Rattle.std.specs.Prelude.{◌≡◌, ◌≤◌, ◌<◌, ◌+◌, ◌++◌, ◌∷◌, [], length, codes, OnOk};
+ghost use Rattle.std.specs.List.{AllByRecursion};
+ghost use Rattle.trace_text.specs.Ranges.{InRange};
 ghost use Rattle.fb_text.specs.Written.{line_bytes};
 ghost use Rattle.bus_model.specs.Setup.{line_count, board_places};
 ghost use Rattle.bus_model.specs.Entries.{entries};
 ghost use Rattle.backplane.specs.Machine.{configuration, IsBoard};
-ghost use Rattle.run_text.specs.RunText.{replies_text, memory_of, all_memory, copy_of, events_text, board_copies, all_copies, ending, run_text};
+ghost use Rattle.run_text.specs.RunText.{board_replies, replies_text, memory_of, all_memory, copy_of, events_text, board_copies, all_copies, ending, run_text};
 ghost use Rattle.run_text.specs.Printing.{Printed, IsReady};
 
 use crate::lines::{write_copy, write_memory};
@@ -15,6 +17,21 @@ use bus_signals::{BoardNo, LineNo};
 use fb_edge::{PutFailed, Sink};
 use fb_text::Text;
 use run_lines::runs_are_spelled;
+
+/// Prints the replies to the reads of a board.
+fn print_board_replies<K: Sink>(
+    machine: &Machine,
+    board: BoardNo,
+    sink: &mut K,
+    line: &mut Text,
+) -> Result<(), PutFailed>
+    requires ready { IsReady line.old }
+    requires board { IsBoard machine.now board }
+    ensures printed { Printed (K.faults sink.old) (K.faults sink.new) (K.taken sink.old) (K.taken sink.new) (board_replies (entries machine.now.journal) board) result }
+    ensures ready { IsReady line.new }
+{
+    print_replies(machine.replies(board), sink, line)
+}
 
 /// Prints the replies to the reads of the boards.
 fn print_all_replies<K: Sink>(
@@ -27,8 +44,7 @@ fn print_all_replies<K: Sink>(
     ensures ready { IsReady line.new }
 {
     for place in 0..machine.boards() {
-        let replies = machine.replies(BoardNo(place + 1));
-        if let Err(failed) = print_replies(replies, sink, line) {
+        if let Err(failed) = print_board_replies(machine, BoardNo(place + 1), sink, line) {
             return Err(failed);
         }
     }
@@ -83,8 +99,9 @@ fn print_copy<K: Sink>(
     ensures printed { Printed (K.faults sink.old) (K.faults sink.new) (K.taken sink.old) (K.taken sink.new) (copy_of (configuration machine.now) board number) result }
     ensures ready { IsReady line.new }
 {
-    if let Some((state, words)) = machine.copy(board, LineNo(number)) {
-        write_copy(board, LineNo(number), state, words, line);
+    if let Some(copy) = machine.copy(board, LineNo(number)) {
+        let words = copy.1;
+        write_copy(board, LineNo(number), copy.0, words, line);
     }
     print_line(line, sink)
 }
@@ -154,6 +171,7 @@ fn print_journal<K: Sink>(
 ) -> Result<(), PutFailed>
     requires ready { IsReady line.old }
     ensures printed { Printed (K.faults sink.old) (K.faults sink.new) (K.taken sink.old) (K.taken sink.new) (events_text machine.now.journal) result }
+    ensures spelled { OnOk result (AllByRecursion InRange machine.now.journal) }
     ensures ready { IsReady line.new }
 {
     runs_are_spelled();
@@ -178,6 +196,8 @@ pub fn print_run<K: Sink>(
 ) -> Result<(), PutFailed>
     requires ready { IsReady line.old }
     ensures printed { Printed (K.faults sink.old) (K.faults sink.new) (K.taken sink.old) (K.taken sink.new) (run_text machine.now.setup machine.now.journal (configuration machine.now)) result }
+    // Each event has its line.
+    ensures spelled { OnOk result (AllByRecursion InRange machine.now.journal) }
     ensures ready { IsReady line.new }
 {
     if let Err(failed) = print_journal(machine, sink, line) {

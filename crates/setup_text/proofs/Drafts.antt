@@ -1,6 +1,6 @@
 -- What changes of a setup that was read so far keep.
 use Rattle.std.proofs.Common.{◌≡◌, ◌≢◌, ℕ, zero, suc, ◌+◌, ◌-◌, ◌<◌, ◌≤◌, Bool, true, false, ◌↔◌, not, ◌||◌, List, [], ◌∷◌, ◌++◌, map, length, get_or, set, Option, None, Result, Ok, Err, OnOk, OnErr, refl, sym, ap, subst, ◌∙◌, arith, IsTrue, All, AllPairs, sum_by}
-use Rattle.std.proofs.lemmas.List.{length-set, length-append, length-map, map-set, get_or-map, get_or_append_left}
+use Rattle.std.proofs.lemmas.List.{length-set, length-append, length-map, map-set, get_or-map, get_or_append_left, map-append}
 use Rattle.std.proofs.lemmas.List.Elements.{All-set, All-push, All-weaker, All-get_or}
 use Rattle.std.proofs.lemmas.List.Quantifiers.{all_pairs_push}
 use Rattle.std.proofs.lemmas.List.Sums.{sum_by-set}
@@ -19,7 +19,7 @@ use Rattle.class_relation.specs.Tables.{Table, empty_table}
 use Rattle.table_check.specs.Reached.{Reached, is_reached}
 use Rattle.table_check.specs.Setup.{Setup, BoardFits, ShapeFits, access_count}
 use Rattle.table_check.proofs.Reaching.{reached-test, test-reached}
-use Rattle.setup_text.specs.Drafts.{with_access, with_table, access_added, named, found_name, stays_invalid, AreTables, IsDraft, IsKnown, IsShape}
+use Rattle.setup_text.specs.Drafts.{with_access, with_table, access_added, Named, named, found_name, stays_invalid, AreTables, IsDraft, IsKnown, IsShape}
 use Rattle.setup_text.proofs.Naming.{found_new}
 
 -- a script that grew is that of the last list
@@ -75,6 +75,13 @@ tables_push ts t h few new = record {
   few = omega (arith, length-append ts (t ∷ []));
   names = all_pairs_push (λ (a b : Table). a.name ≢ b.name) ts t h.names (λ k d low. found_new t.name ts new k d low);
 }
+
+pub tables_pushed : (ts seen after : List Table) (t : Table) (names names_after : List Named) (bytes : List ℕ) (stays : Bool) → ts ≡ seen → AreTables ts → names ≡ map named ts → after ≡ ts ++ t ∷ [] → names_after ≡ names ++ (bytes, stays) ∷ [] → bytes ≡ t.name → stays ≡ stays_invalid t
+    → length seen < 16 → found_name (map named seen) t.name ≡ None → AreTables after × (names_after ≡ map named after)
+tables_pushed ts seen after t names names_after bytes stays same are were made named_after is flag few new =
+    let pair : (bytes, stays) ≡ named t = rw (is, flag) refl in
+    let P : List Table → Type 0 = λ x. AreTables x × (names_after ≡ map named x) in
+    subst P (sym made) (tables_push ts t are (rw same few) (rw same new), named_after ∙ (ap (λ (n : List Named). n ++ (bytes, stays) ∷ []) were ∙ (ap (λ (x : Named). map named ts ++ x ∷ []) pair ∙ sym (map-append named ts (t ∷ [])))))
 
 -- the test of a state that is reached
 pub reach_test : (t : Table) (s : State) (r : Bool) → (IsTrue r ↔ Reached t s) → r ≡ is_reached t s

@@ -1,5 +1,7 @@
 -- Reading one line after another.
-use Rattle.std.proofs.Common.{◌≡◌, ℕ, Bool, true, false, cond, List, [], ◌∷◌, ◌++◌, length, drop, Option, Some, None, Result, Ok, Err, refl, sym, ap, subst, ◌∙◌}
+use Rattle.std.proofs.Common.{◌≡◌, ℕ, Bool, true, false, cond, List, [], ◌∷◌, ◌++◌, length, drop, Option, Some, None, Result, Ok, Err, refl, sym, ap, subst, ◌∙◌, ◌≤◌, ◌≢◌, arith}
+use Rattle.std.specs.Prelude.{codes}
+use Rattle.table_check.specs.declared.boards.BoardSpec.{BoardSpec}
 use Rattle.fb_text.specs.Places.{Words}
 use Rattle.fb_text.specs.Lines.{is_empty}
 use Rattle.fb_text.specs.Unread.{Unread, Line, first, has_line, at_next_line}
@@ -12,7 +14,7 @@ use Rattle.setup_text.specs.declared.fault.SetupFault.TheVariants as faults
 use Rattle.setup_text.specs.declared.fault.SetupKind.{SetupKind}
 use Rattle.setup_text.specs.declared.fault.SetupKind.TheVariants.{UnknownWord, NoEnd}
 use Rattle.setup_text.specs.Drafts.{with_table}
-use Rattle.setup_text.specs.Reading.{Mode, start, body, in_table, ended, BookMode, Fault, Gives, Fails, FailsAs, GoesOn, on_line, then_lines, head_name, head_line, line_ends, table_head, book_head, whole_table, as_setup_fault, body_line, first_line, line_at, lines_at, text_ends, setup_at, book_line, book_lines, book_ends, place_in, places_on, schedule_lines, as_setup_kind, after_table_line, after_book_line}
+use Rattle.setup_text.specs.Reading.{Mode, start, body, in_table, ended, BookMode, Fault, Gives, Fails, FailsAs, Answers, GoesOn, on_line, then_lines, this_word, head_name, head_line, line_ends, table_head, book_head, whole_table, as_setup_fault, body_line, first_line, line_at, lines_at, text_ends, setup_at, book_line, book_lines, book_ends, place_in, places_on, schedule_lines, as_setup_kind, after_table_line, after_book_line, mode_after}
 use Rattle.setup_text.proofs.TableLines.{through_lines}
 
 abbrev at : ℕ → Words → List Line → ℕ → Unread
@@ -135,3 +137,46 @@ table_read lines whole t v read x e h = e ∙ rw h refl
 pub table_failed : {R : Type 0} (fault : SetupFault) (read : Result R Fault) (x : Result (Table × Unread) Fault) (f : Table × Unread → Result R Fault) → read ≡ (x >>= f) → FailsAs fault x → FailsAs fault read
 table_failed faults.NoMemory read x f e h = tt
 table_failed (faults.Bad line kind) read x f e h = e ∙ rw h refl
+
+-- a head line that was begun
+pub head_begun : (setup : Setup) (u : Unread) → is_empty setup.boards ≡ true → then_lines lines_at u (table_head setup u.words) ≡ then_lines lines_at u (head_line setup.tables u.words >>= λ name. Ok (in_table setup (empty_table name)))
+head_begun setup u none = rw none refl
+
+pub no_boards : (setup : Setup) (boards : List BoardSpec) → boards ≡ setup.boards → length boards ≤ 0 → is_empty setup.boards ≡ true
+no_boards setup boards same e = rw (← same) (go boards e)
+  where
+    go : (boards : List BoardSpec) → length boards ≤ 0 → is_empty boards ≡ true
+    go [] h = refl
+    go (b ∷ bs) h = absurd (omega arith)
+
+pub book_begun : (tables : List Table) (u v : Unread) → this_word (codes "table") u.words ≡ Ok v.words → StaysOnLine u v → then_lines book_lines u (book_head tables u.words) ≡ then_lines book_lines v (head_line tables v.words >>= λ name. Ok (BookMode.within tables (empty_table name)))
+book_begun tables u v e stays = rw (e, stays.line, stays.lines, stays.end) refl
+
+-- ---- the first line and the end of a setup
+
+pub setup_begins : (n : ℕ) (ws : Words) (ls : List Line) (end : ℕ) (v : Unread) → has_line ls ≡ true → v ≡ at_next_line (at n ws ls end) → lines_at start ls end ≡ then_lines lines_at v (first_line v.words)
+setup_begins n ws ls end v h e = setup_step start n ws ls end v h e
+
+-- a line behind the `end` line
+pub ended_more : (setup : Setup) (n : ℕ) (ws : Words) (ls : List Line) (end : ℕ) (v : Unread) → has_line ls ≡ true → v ≡ at_next_line (at n ws ls end) → lines_at (ended setup) ls end ≡ Err (record { line = v.line; kind = UnknownWord })
+ended_more setup n ws ls end v h e = setup_step (ended setup) n ws ls end v h e
+
+pub ends_by : (setup : Setup) (x : Bool) (v : Unread) (read : Result Setup Fault) → x ≡ true → read ≡ lines_at (mode_after setup x) v.lines v.end → read ≡ lines_at (ended setup) v.lines v.end
+ends_by setup x v read e h = rw e at h
+
+pub goes_by : (setup : Setup) (x : Bool) (v : Unread) (read : Result Setup Fault) → x ≡ false → read ≡ lines_at (mode_after setup x) v.lines v.end → read ≡ lines_at (body setup) v.lines v.end
+goes_by setup x v read e h = rw e at h
+
+pub fails_to : {R : Type 0} (fault : SetupFault) (a b : Result R Fault) → a ≡ b → FailsAs fault b → FailsAs fault a
+fails_to fault a b e h = subst (λ (x : _). FailsAs fault x) (sym e) h
+
+pub answers_to : {X Y : Type 0} (view : X → Y) (r : Result X SetupFault) (a b : Result Y Fault) → a ≡ b → Answers view r b → Answers view r a
+answers_to view r a b e h = subst (λ (x : _). Answers view r x) (sym e) h
+
+pub no_tables : (tables : List Table) (end : ℕ) → length tables ≡ 0 → book_ends (BookMode.whole tables) end ≡ Err (record { line = end; kind = NoEnd })
+no_tables [] end e = refl
+no_tables (t ∷ ts) end e = absurd (omega arith)
+
+pub some_tables : (tables : List Table) (end : ℕ) → length tables ≢ 0 → book_ends (BookMode.whole tables) end ≡ Ok tables
+some_tables [] end e = absurd (e refl)
+some_tables (t ∷ ts) end e = refl

@@ -14,7 +14,7 @@ use Rattle.setup_text.specs.Grammars.{kind_of}
 use Rattle.setup_text.specs.Reading.{Fault, on_line, as_setup_kind, as_setup_fault}
 
 -- entering cells keeps the name
-entered_name : (t : Table) (cells : List CellLine) → (all_entered t cells).name ≡ t.name
+pub entered_name : (t : Table) (cells : List CellLine) → (all_entered t cells).name ≡ t.name
 entered_name t [] = refl
 entered_name t (local s e alts ∷ cells) = entered_name (entered t (local s e alts)) cells
 entered_name t (answer s e alts ∷ cells) = entered_name (entered t (answer s e alts)) cells

@@ -1,6 +1,7 @@
 -- A setup that is written is spelled by what is written.
 use Rattle.std.proofs.Common.{◌≡◌, ℕ, ◌+◌, ◌*◌, ◌<◌, ◌^◌, List, [], ◌∷◌, ◌++◌, length, map, refl, sym, ap, subst, ◌∙◌, arith}
 use Rattle.std.specs.List.{AllByRecursion}
+use Rattle.std.proofs.lemmas.List.{append-nil}
 use Rattle.fb_text.specs.Lines.{lines, words, contents}
 use Rattle.fb_text.specs.Unread.{Line, unread, numbered}
 use Rattle.fb_text.specs.Places.{Words, items, lines_items, lines_places, text_places}
@@ -8,17 +9,17 @@ use Rattle.fb_text.proofs.Spaced.{lines_again}
 use Rattle.class_relation.specs.Tables.{Table}
 use Rattle.table_check.specs.Setup.{Setup, WellFormed, line_count}
 use Rattle.table_check.specs.Setup as checked
-use Rattle.setup_text.specs.Spelling.{setup_rows, SetupFits}
+use Rattle.setup_text.specs.Spelling.{setup_rows, SetupFits, setup_items}
 use Rattle.setup_text.specs.Values.{board_of, setup_of}
 use Rattle.setup_text.specs.Correct.{SetupStands, IsSetup}
-use Rattle.setup_text.specs.Writing.{text_of, written_setup, boards_from, IsWholeSetup, HaveNoWords, places_behind}
+use Rattle.setup_text.specs.Writing.{text_of, written_setup, boards_from, IsWholeSetup, places_behind}
 use Rattle.setup_text.proofs.WrittenWords.{each, memory_again, words_within, words_fit}
 use Rattle.setup_text.proofs.WrittenTables.{tables_again, tables_stand, tables_fit}
 use Rattle.setup_text.proofs.WrittenBoards.{boards_again, scripts_again, in_places, boards_fit}
 use Rattle.setup_text.proofs.WrittenRows.{setup_plain}
 
 -- what is written has the value of the setup
-value_again : (s : Setup) → IsWholeSetup s → setup_of (text_of s) ≡ s
+pub value_again : (s : Setup) → IsWholeSetup s → setup_of (text_of s) ≡ s
 value_again s h =
     let m = memory_again s.memory (line_count s) h.sound.memory in
     let t = tables_again s.tables h.tables in
@@ -26,7 +27,7 @@ value_again s h =
     let c = scripts_again s.tables 1 s.boards s.scripts h.sound.scripts in
     λ i. record { memory = m i; tables = t i; boards = (ap (λ (v : List Table). map (board_of v) (boards_from s.tables 1 s.boards s.scripts)) t ∙ b) i; scripts = c i }
 
-fits : (s : Setup) → IsWholeSetup s → SetupFits (text_of s)
+pub fits : (s : Setup) → IsWholeSetup s → SetupFits (text_of s)
 fits s h =
     let few = h.sound.lines_high in
     let long = h.sound.memory in
@@ -38,7 +39,7 @@ fits s h =
       boards = boards_fit s s.tables 1 s.boards s.scripts refl h.tables (omega arith) (each (checked.BoardFits s) s.boards h.sound.boards) h.chooses h.scripts;
     }
 
-stands : (s : Setup) → IsWholeSetup s → SetupStands (text_of s)
+pub stands : (s : Setup) → IsWholeSetup s → SetupStands (text_of s)
 stands s h =
     let long = h.sound.memory in
     record {
@@ -57,17 +58,14 @@ places_again s h rest =
     let end : ℕ = (unread (written_setup s ++ rest)).end in
     lines_again rows 1 end rest (setup_plain (text_of s) (fits s h)) ∙ ap (λ (n : ℕ). lines_items rows ++ items (lines_places (numbered n (lines rest)) end)) (omega arith)
 
-no_lines : (n : ℕ) (ls : List (List ℕ)) → AllByRecursion (λ line. words (contents line) ≡ []) ls → numbered n ls ≡ []
-no_lines n [] h = refl
-no_lines n (l ∷ ls) h = rw h.0 (no_lines (n + 1) ls h.1)
+nothing_behind : (s : Setup) → lines_items (setup_rows (text_of s)) ++ places_behind s [] ≡ setup_items (text_of s)
+unfolding lines
+nothing_behind s = refl
 
-pub is_setup : (s : Setup) → IsWholeSetup s → (rest : List ℕ) → HaveNoWords rest → IsSetup (written_setup s ++ rest) s
-is_setup s h rest none =
-    let rows : List Words = setup_rows (text_of s) in
-    let end : ℕ = (unread (written_setup s ++ rest)).end in
-    record {
-      spelled = text_of s;
-      stands = stands s h;
-      text = places_again s h rest ∙ ap (λ (ls : List Line). lines_items rows ++ items (lines_places ls end)) (no_lines (length rows + 1) (lines rest) none);
-      value = sym (value_again s h);
-    }
+pub is_setup : (s : Setup) → IsWholeSetup s → IsSetup (written_setup s) s
+is_setup s h = record {
+  spelled = text_of s;
+  stands = stands s h;
+  text = ap (λ (v : List ℕ). items (text_places v)) (sym (append-nil (written_setup s))) ∙ (places_again s h [] ∙ nothing_behind s);
+  value = sym (value_again s h);
+}

@@ -1,41 +1,15 @@
 -- What it means that a text is read right.
-use Rattle.std.specs.Prelude.{◌≡◌, ℕ, ◌+◌, ◌*◌, ◌<◌, ◌≤◌, List, [], ◌∷◌, length, Result, Ok, Err, AllPairs, ◌≢◌}
+use Rattle.std.specs.Prelude.{◌≡◌, ℕ, ◌≤◌, List, Result, Ok, Err}
 use Rattle.std.specs.List.{AllByRecursion}
 use Rattle.fb_text.specs.Places.{Place, items, text_places, Grammar, FirstFault}
-use Rattle.class_relation.specs.Tables.{Table, empty_table}
-use Rattle.table_check.specs.Setup.{Setup, WellFormed}
-use Rattle.table_text.specs.Correct.{AllStand}
+use Rattle.class_relation.specs.Tables.{Table}
+use Rattle.table_check.specs.Setup.{Setup}
 use Rattle.setup_text.specs.declared.fault.SetupKind.{SetupKind}
 use Rattle.setup_text.specs.declared.fault.SetupFault.{SetupFault}
 use Rattle.setup_text.specs.declared.fault.SetupFault.TheVariants as faults
-use Rattle.setup_text.specs.Spelling.{TableText, BoardText, SetupText, setup_items, book_items, schedule_items, SetupFits, BookFits, ScheduleFits}
-use Rattle.setup_text.specs.Values.{tables_of, names_of, setup_of, turns_of}
-
--- ---- texts without a fault
-
--- The cell lines of a table can stand behind one another.
-abbrev pub CellsStand : TableText → Type 0
-CellsStand t = AllStand (empty_table t.name) t.cells
-
--- The boards have the places from this one on.
-abbrev pub InPlaces : ℕ → List BoardText → Type 0
-InPlaces n [] = Unit {0}
-InPlaces n (b ∷ bs) = (b.place ≡ n) × InPlaces (n + 1) bs
-
--- A setup that is written within the ranges and the side conditions.
-pub record SetupStands (s : SetupText) : Type 0 where
-  pub fits : SetupFits s
-  pub addresses : AllByRecursion (λ w. w.0 < 4 * s.lines) s.words
-  pub cells : AllByRecursion CellsStand s.tables
-  pub places : InPlaces 1 s.boards
-  pub sound : WellFormed (setup_of s)
-
--- A text of tables that is written within the side conditions.
-pub record BookStands (tables : List TableText) : Type 0 where
-  pub fits : BookFits tables
-  pub cells : AllByRecursion CellsStand tables
-  pub few : length tables ≤ 16
-  pub names : AllPairs (λ (a b : Table). a.name ≢ b.name) (tables_of tables)
+use Rattle.setup_text.specs.Spelling.{TableText, SetupText, setup_items, book_items, schedule_items, ScheduleFits}
+pub use Rattle.setup_text.specs.Standing.{CellsStand, InPlaces, SetupStands, BookStands}
+use Rattle.setup_text.specs.Values.{tables_of, setup_of, turns_of}
 
 -- ---- what was read
 

@@ -1,5 +1,5 @@
 -- The grammars of texts of tables, of setups and of schedules: where their side conditions are judged, and what faults are called.
-use Rattle.std.specs.Prelude.{◌≡◌, ◌≢◌, ℕ, ◌+◌, ◌*◌, ◌<◌, ◌≤◌, ◌⊎◌, Bool, true, false, ◌&&◌, List, [], ◌∷◌, ◌++◌, length, map, Option, Some, None, Contains, codes, decimal, if◌then◌else◌}
+use Rattle.std.specs.Prelude.{◌≡◌, ◌≢◌, ℕ, ◌+◌, ◌*◌, ◌<◌, ◌≤◌, ◌^◌, ◌⊎◌, Bool, true, false, ◌&&◌, List, [], ◌∷◌, ◌++◌, length, map, Option, Some, None, Contains, codes, decimal, if◌then◌else◌}
 use Rattle.std.specs.Str.{bytes_eq}
 use Rattle.fb_text.specs.Places.{Words, Item, word, line_end, text_end, lines_items, BreaksAtWord, Grammar}
 use Rattle.moesi_state.specs.declared.State.{State}
@@ -12,11 +12,12 @@ use Rattle.table_check.specs.Reached.{Reached}
 use Rattle.table_check.specs.Setup.{Setup, access_count}
 use Rattle.table_text.specs.declared.fault.TableKind.{TableKind}
 use Rattle.table_text.specs.declared.fault.TableKind.TheVariants as table_kinds
-use Rattle.table_text.specs.Spelling.{cell_words, BreaksCell, EndsWithEquals}
+use Rattle.table_text.specs.Spelling.{cell_words, BreaksCell}
 use Rattle.setup_text.specs.declared.fault.LimitOf.TheVariants.{Lines, Tables, Boards, Frames, Accesses, Alternatives}
 use Rattle.setup_text.specs.declared.fault.SetupKind.{SetupKind}
 use Rattle.setup_text.specs.declared.fault.SetupKind.TheVariants.{UnknownWord, Number, Address, TwiceName, TwiceNumber, TwiceCell, NoCell, NoTable, NoFrames, Limit, NoEnd}
-use Rattle.setup_text.specs.Spelling.{TableText, SetupText, open_table_rows, tables_rows, open_rows, setup_items, book_items, schedule_items, SetupFits, BookFits, ScheduleFits}
+use Rattle.setup_text.specs.Spelling.{TableText, SetupText, TableFits, open_table_rows, tables_rows, open_rows, setup_items, book_items, schedule_items, SetupFits, BookFits, ScheduleFits}
+use Rattle.setup_text.specs.Standing.{StandsSoFar, TablesStand}
 use Rattle.setup_text.specs.Values.{tables_of, names_of, setup_of}
 
 -- ---- what stands behind the words of a line
@@ -136,7 +137,7 @@ JudgedFirst setup w kind =
 
 -- An address that memory lacks.
 abbrev pub JudgedAddress : Setup → List ℕ → SetupKind → Type 0
-JudgedAddress setup w kind = (addr : ℕ) × (w ≡ decimal addr) × (length setup.memory ≤ addr) × (kind ≡ Address)
+JudgedAddress setup w kind = (addr : ℕ) × (addr < 2 ^ 32) × (w ≡ decimal addr) × (length setup.memory ≤ addr) × (kind ≡ Address)
 
 -- A place that is not the next one.
 abbrev pub JudgedPlace : Setup → List ℕ → SetupKind → Type 0
@@ -144,7 +145,7 @@ JudgedPlace setup w kind = (w ≢ decimal (length setup.boards + 1)) × (kind �
 
 -- A number that an earlier board has.
 abbrev pub JudgedNumber : Setup → List ℕ → SetupKind → Type 0
-JudgedNumber setup w kind = (n : ℕ) × (w ≡ decimal n) × Contains (map (λ (b : BoardSpec). b.number) setup.boards) n × (kind ≡ TwiceNumber)
+JudgedNumber setup w kind = (n : ℕ) × (n ≤ 255) × (w ≡ decimal n) × Contains (map (λ (b : BoardSpec). b.number) setup.boards) n × (kind ≡ TwiceNumber)
 
 -- A name that no table has.
 abbrev pub JudgedTable : Setup → List ℕ → SetupKind → Type 0
@@ -162,7 +163,7 @@ JudgedShape setup words w kind =
 
 -- More frames than a board can have.
 abbrev pub JudgedWays : Words → List ℕ → SetupKind → Type 0
-JudgedWays words w kind = (m : ℕ) × (n : ℕ) × (last_word words ≡ decimal m) × (w ≡ decimal n) × (256 < m * n) × (kind ≡ Limit Frames (m * n))
+JudgedWays words w kind = (m : ℕ) × (n : ℕ) × (m ≤ 256) × (n ≤ 256) × (last_word words ≡ decimal m) × (w ≡ decimal n) × (256 < m * n) × (kind ≡ Limit Frames (m * n))
 
 abbrev pub JudgedAs : Slot → Setup → Words → List ℕ → SetupKind → Type 0
 JudgedAs first setup words w kind = JudgedFirst setup w kind
@@ -177,7 +178,7 @@ JudgedAs s setup words w kind = ⊥
 
 -- The number of lines of memory.
 abbrev pub JudgedLines : List ℕ → SetupKind → Type 0
-JudgedLines w kind = (n : ℕ) × (w ≡ decimal n) × ((n ≡ 0) ⊎ (4096 < n)) × (kind ≡ Limit Lines n)
+JudgedLines w kind = (n : ℕ) × (n < 2 ^ 32) × (w ≡ decimal n) × ((n ≡ 0) ⊎ (4096 < n)) × (kind ≡ Limit Lines n)
 
 -- The kind of a table's fault in a setup or a text of tables.
 abbrev pub kind_of : TableKind → SetupKind
@@ -187,20 +188,21 @@ kind_of table_kinds.NoCell = NoCell
 kind_of (table_kinds.Alternatives count) = Limit Alternatives count
 kind_of table_kinds.NoEnd = NoEnd
 
--- A side condition of a table that is open fails at a word of one of its lines.
+-- Behind whole lines, a side condition of a table that is open fails at a word of one of its lines.
 pub record JudgedInTable (front earlier : List Words) (words : Words) (here : List ℕ) (kind : SetupKind) : Type 0 where
   pub open_table : TableText
+  pub fits : TableFits open_table
   pub parts : earlier ≡ front ++ open_table_rows open_table
   pub table_kind : TableKind
   pub breaks : BreaksCell (map cell_words open_table.cells) words here table_kind
   pub kind_is : kind ≡ kind_of table_kind
 
--- A side condition fails at a word of a setup: on the first line, behind the lines of a setup that was read so far, or in a table.
+-- A side condition fails at a word of a setup: on the first line, behind the lines of a setup that stands so far, or in a table behind them.
 abbrev pub BreaksSetup : List Words → Words → List ℕ → SetupKind → Type 0
 BreaksSetup earlier words here kind =
     ((earlier ≡ []) × (words ≡ codes "memory" ∷ []) × JudgedLines here kind)
-    ⊎ ((s : SetupText) × (earlier ≡ open_rows s) × JudgedAs (slot_of words) (setup_of s) words here kind)
-    ⊎ ((s : SetupText) × (s.boards ≡ []) × JudgedInTable (open_rows s) earlier words here kind)
+    ⊎ ((s : SetupText) × StandsSoFar s × (earlier ≡ open_rows s) × JudgedAs (slot_of words) (setup_of s) words here kind)
+    ⊎ ((s : SetupText) × StandsSoFar s × JudgedInTable (open_rows s) earlier words here kind)
 
 -- The side conditions of tables at the words of head lines.
 abbrev pub JudgedHead : Slot → List Table → List ℕ → SetupKind → Type 0
@@ -208,25 +210,37 @@ JudgedHead first tables w kind = JudgedTableWord tables w kind
 JudgedHead name tables w kind = JudgedName tables w kind
 JudgedHead s tables w kind = ⊥
 
--- A side condition fails at a word of a text of tables: behind whole tables, or in one.
+-- A side condition fails at a word of a text of tables: behind whole tables that stand, or in one behind them.
 abbrev pub BreaksBook : List Words → Words → List ℕ → SetupKind → Type 0
 BreaksBook earlier words here kind =
-    ((tables : List TableText) × (earlier ≡ tables_rows tables) × JudgedHead (slot_of words) (tables_of tables) here kind)
-    ⊎ ((tables : List TableText) × JudgedInTable (tables_rows tables) earlier words here kind)
+    ((tables : List TableText) × TablesStand tables × (earlier ≡ tables_rows tables) × JudgedHead (slot_of words) (tables_of tables) here kind)
+    ⊎ ((tables : List TableText) × TablesStand tables × JudgedInTable (tables_rows tables) earlier words here kind)
 
 -- ---- the kinds of the other faults
 
 -- A missing or wrong number is Number, and all else is UnknownWord.
-pub record UnfitWord (before : List Item) (kind : SetupKind) : Type 0 where
+abbrev pub unfit_word : Words → SetupKind
+unfit_word words = if wants_number (slot_of words) then Number else UnknownWord
+
+-- The words of a cell line right up to its `=`.
+abbrev pub cell_front : Front
+cell_front = any ∷ any ∷ the (codes "=") ∷ []
+
+-- The same at the end of a line, but that a cell line needs an alternative.
+abbrev pub unfit_end : Words → SetupKind
+unfit_end words = if has_front cell_front words then NoCell else unfit_word words
+
+-- The kind is that which the words of the line before this place give.
+pub record UnfitBehind (kind_at : Words → SetupKind) (before : List Item) (kind : SetupKind) : Type 0 where
   pub earlier : List Words
   pub words : Words
   pub before_is : before ≡ lines_items earlier ++ map word words
-  pub kind_is : kind ≡ (if wants_number (slot_of words) then Number else UnknownWord)
+  pub kind_is : kind ≡ kind_at words
 
 abbrev pub UnfitText : List Item → Item → SetupKind → Type 0
 UnfitText before text_end kind = kind ≡ NoEnd
-UnfitText before line_end kind = (EndsWithEquals before × (kind ≡ NoCell)) ⊎ (¬ (EndsWithEquals before) × UnfitWord before kind)
-UnfitText before (word w) kind = UnfitWord before kind
+UnfitText before line_end kind = UnfitBehind unfit_end before kind
+UnfitText before (word w) kind = UnfitBehind unfit_word before kind
 
 -- ---- the grammars
 

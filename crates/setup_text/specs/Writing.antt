@@ -1,8 +1,8 @@
 -- The one spelling in which a setup is written.
-use Rattle.std.specs.Prelude.{◌≡◌, ℕ, ◌+◌, ◌*◌, nat_eq, List, [], ◌∷◌, ◌++◌, length, map, slice_index_or, if◌then◌else◌}
+use Rattle.std.specs.Prelude.{◌≡◌, ℕ, ◌+◌, ◌*◌, nat_eq, List, [], ◌∷◌, ◌++◌, length, map, slice_index_or, Result, Ok, Err, if◌then◌else◌}
 use Rattle.std.specs.List.{AllByRecursion}
-use Rattle.fb_text.specs.Lines.{lines, words, contents}
-use Rattle.fb_text.specs.Unread.{unread, numbered}
+use Rattle.fb_text.specs.Lines.{lines}
+use Rattle.fb_text.specs.Unread.{Line, unread, numbered}
 use Rattle.fb_text.specs.Places.{Item, items, lines_places}
 use Rattle.fb_text.specs.Written.{lines_bytes}
 use Rattle.bus_signals.specs.declared.Access.{Access}
@@ -10,6 +10,9 @@ use Rattle.class_relation.specs.Tables.{Table, empty_table, IsWhole}
 use Rattle.table_check.specs.declared.boards.BoardSpec.{BoardSpec}
 use Rattle.table_check.specs.Setup.{Setup, WellFormed, line_count, access_count}
 use Rattle.table_text.specs.Writing.{cells_of, table_room}
+use Rattle.setup_text.specs.declared.fault.SetupKind.TheVariants.{UnknownWord}
+use Rattle.setup_text.specs.declared.fault.SetupFault.{SetupFault}
+use Rattle.setup_text.specs.declared.fault.SetupFault.TheVariants as faults
 use Rattle.setup_text.specs.Spelling.{TableText, BoardText, SetupText, setup_rows, ChooseFits, AccessFits}
 
 -- The words that are not 0, each with its address, in address order. The first word of the list has this address.
@@ -62,12 +65,18 @@ pub record IsWholeSetup (s : Setup) : Type 0 where
   pub chooses : AllByRecursion (λ (b : BoardSpec). ChooseFits b.choose) s.boards
   pub scripts : AllByRecursion (AllByRecursion AccessFits) s.scripts
 
--- No line of these bytes has a word.
-abbrev pub HaveNoWords : List ℕ → Type 0
-HaveNoWords bytes = AllByRecursion (λ line. words (contents line) ≡ []) (lines bytes)
+-- The lines with words of bytes that follow a written setup, numbered as they stand behind it.
+abbrev pub lines_behind : Setup → List ℕ → List Line
+lines_behind s rest = numbered (length (setup_rows (text_of s)) + 1) (lines rest)
 
--- The places behind a written setup which these bytes follow: those of the bytes.
+-- The places of these lines.
 abbrev pub places_behind : Setup → List ℕ → List Item
-places_behind s rest =
-    let last = length (setup_rows (text_of s)) in
-    items (lines_places (numbered (last + 1) (lines rest)) (unread (written_setup s ++ rest)).end)
+places_behind s rest = items (lines_places (lines_behind s rest) (unread (written_setup s ++ rest)).end)
+
+-- What reading answers where these lines follow a written setup: the setup where there are none, and else a fault at the first word of the first line, unless memory runs out.
+abbrev pub IsReadBefore : List Line → Result Setup SetupFault → Setup → Type 0
+IsReadBefore ls (Err faults.NoMemory) s = Unit {0}
+IsReadBefore [] (Ok r) s = r ≡ s
+IsReadBefore [] (Err (faults.Bad line kind)) s = ⊥
+IsReadBefore (l ∷ ls) (Ok r) s = ⊥
+IsReadBefore (l ∷ ls) (Err (faults.Bad line kind)) s = (line ≡ l.number) × (kind ≡ UnknownWord)

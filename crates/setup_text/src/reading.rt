@@ -1,15 +1,17 @@
 //! Reading a setup, line after line.
 
-ghost use Rattle.std.specs.Prelude.{◌≡◌, ◌<◌, ◌≤◌, ◌^◌, ◌∷◌, true, false, codes, length, IfOk, IfErr, OnOk};
+ghost use Rattle.std.specs.Prelude.{◌≡◌, ◌<◌, ◌≤◌, ◌^◌, ◌∷◌, true, false, codes, length, IfOk, IfErr, OnOk, ◌++◌, ℕ, List};
 ghost use Rattle.std.specs.Str.{bytes_eq};
 ghost use Rattle.fb_text.specs.Places.{items, text_places};
 ghost use Rattle.fb_text.specs.Unread.{unread};
+ghost use Rattle.table_check.specs.Setup.{Setup};
 ghost use Rattle.table_text.specs.Reading.{StaysOnLine};
 ghost use Rattle.setup_text.specs.Spelling.{SetupText, setup_items};
 ghost use Rattle.setup_text.specs.Values.{setup_of};
 ghost use Rattle.setup_text.specs.Grammars.{setup_grammar};
 ghost use Rattle.setup_text.specs.Correct.{SetupStands, IsSetup, IsReadAs, IsFirstFault};
 ghost use Rattle.setup_text.specs.Reading.{Mode, Gives, Answers, GoesOn, mode_after, then_lines, word_line, table_head, board_added, access_read, end_line, body_line, first_line, lines_at, setup_at};
+ghost use Rattle.setup_text.specs.Writing.{written_setup, IsWholeSetup, lines_behind, IsReadBefore};
 
 use crate::board_line::board;
 use crate::draft::Draft;
@@ -188,6 +190,8 @@ pub fn read_setup(alloc: Global, bytes: &[u8]) -> Result<Setup, SetupFault>
     ensures spelled { IfOk result (IsSetup bytes.now) }
     // What is spelled so is read.
     ensures only { (s : SetupText) → SetupStands s → items (text_places bytes.now) ≡ setup_items s → IsReadAs (λ x. x) result (setup_of s) }
+    // A setup that was written is read again. Only a word behind it is at fault.
+    ensures written { (s : Setup) (rest : List ℕ) → IsWholeSetup s → bytes.now ≡ written_setup s ++ rest → IsReadBefore (lines_behind s rest) result s }
     // A fault is that of the first place at fault, with its line and its kind.
     ensures first { IfErr result (IsFirstFault setup_grammar bytes.now) }
     // Which setup or which fault it is.

@@ -10,13 +10,13 @@ ghost use Rattle.table_check.specs.Setup.{access_count};
 ghost use Rattle.table_text.specs.Writing.{table_room};
 ghost use Rattle.setup_text.specs.Spelling.{word_row, board_row, access_row, shape_words, choose_words, tables_rows, board_rows, setup_rows, AccessFits, ChooseFits};
 ghost use Rattle.setup_text.specs.Correct.{IsSetup};
-ghost use Rattle.setup_text.specs.Writing.{words_from, text_of_table, text_of_board, boards_from, text_of, written_setup, setup_room, IsWholeSetup, HaveNoWords, places_behind};
+ghost use Rattle.setup_text.specs.Writing.{words_from, text_of_table, text_of_board, boards_from, text_of, written_setup, setup_room, IsWholeSetup, places_behind};
 
-use setup::Setup;
 use bus_signals::{Access, BoardNo};
 use class_relation::Table;
 use fb_text::Text;
 use no_memory::NoMemory;
+use setup::Setup;
 use table_check::{BoardSpec, Choose, Shape};
 use table_text::{append_table, table_room};
 
@@ -217,9 +217,9 @@ fn room(setup: &Setup) -> usize
 pub fn write_setup(setup: &Setup, text: &mut Text) -> Result<(), NoMemory>
     ensures written { OnOk result (text.new.bytes ≡ text.old.bytes ++ written_setup setup.now) }
     ensures whole { OnOk result (IsWholeSetup setup.now) }
-    // The spelling is a text of this setup, also where lines without words follow it.
-    ensures spelled { OnOk result ((rest : List ℕ) → HaveNoWords rest → IsSetup (written_setup setup.now ++ rest) setup.now) }
-    // Whatever follows the spelling, its lines are read as they were written, and what follows them as it stands.
+    // The spelling is a text of this setup.
+    ensures spelled { OnOk result (IsSetup (written_setup setup.now) setup.now) }
+    // Whatever follows the spelling, its lines stand in the text as they were written, and behind them what follows.
     ensures goes_on { OnOk result ((rest : List ℕ) → items (text_places (written_setup setup.now ++ rest)) ≡ lines_items (setup_rows (text_of setup.now)) ++ places_behind setup.now rest) }
     ensures err { OnErr result (text.new ≡ text.old) }
 {

@@ -30,8 +30,9 @@ impl Machine {
         ensures goes_on { (Complete self.old.setup (configuration self.old) → ⊥) → 1 ≤ result }
     {
         let _journal = self.journal();
+        let boards = self.boards();
         let mut did = 0;
-        for place in 0..self.boards() {
+        for place in 0..boards {
             did += events_of(self.advance(BoardNo(place + 1)));
         }
         did

@@ -10,7 +10,9 @@ ghost use Rattle.backplane.specs.Parts.{CanCarry};
 ghost use Rattle.backplane.specs.Permits.{SoundParts};
 
 use crate::parts::Parts;
-use crate::permits::same::{all_hold, are_boards, are_states, is_board, is_bool, is_done, is_event, is_line, is_source};
+use crate::permits::same::{
+    all_hold, are_boards, are_states, is_board, is_bool, is_done, is_event, is_line, is_source,
+};
 use bus_signals::Access;
 use data_phase::expected;
 use journal::{Carried, Connected, Takers};

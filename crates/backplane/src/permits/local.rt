@@ -47,6 +47,9 @@ pub fn permits_local(
     let alternative = has_local(cell_of(&parts.rack, board, access), &action);
     let held = parts.phase.held_by(board, line).is_some();
     let stays = may_go_on(held, access, before, after);
-    let replied = is_reply(done.reply, reply_of(access, copy_words(&parts.rack, board, line)));
+    let replied = is_reply(
+        done.reply,
+        reply_of(access, copy_words(&parts.rack, board, line)),
+    );
     all_hold(&[present, !connected, same, alternative, stays, replied])
 }

@@ -10,5 +10,6 @@ abbrev pub invariant-loop-event : goal.invariant-loop-event
 invariant-loop-event g l = record {
   printed : Prints (g.K.Sink.faults l.initial.sink) (g.K.Sink.faults l.sink) (g.K.Sink.taken l.initial.sink) (g.K.Sink.taken l.sink) (events_text (take l.event-index l.events));
   spelled : AllByRecursion (λ event. IsTyped event → InRange event) (drop l.event-index l.events);
+  in_range : AllByRecursion InRange (take l.event-index l.events);
   ready : IsReady l.line;
 }

@@ -11,7 +11,7 @@ loop-place-preserved c =
     let m = c.args.self.now in
     let place = c.loop-place.place in
     let i = c.loop-place.invariant in
-    let boards = c.boards-place-end.ensures.boards in
+    let boards = c.boards-boards.ensures.boards in
     let test = c.loop-place-test.true in
     let before = take place (board_places m.setup) in
     let next = next_in_round m.setup place (omega arith) in
@@ -27,14 +27,14 @@ loop-place-preserved c =
 pub returns-clause-turns : goal.returns-clause-turns
 returns-clause-turns c =
     let m = c.args.self.now in
-    let boards = c.boards-place-end.ensures.boards in
+    let boards = c.boards-boards.ensures.boards in
     let test = c.loop-place-test.false in
     c.loop-place.invariant.turned ∙ ap (after_turns m) (whole_round m.setup c.loop-place.place (omega arith))
 
 pub returns-clause-count : goal.returns-clause-count
 returns-clause-count c =
     let m = c.args.self.now in
-    let boards = c.boards-place-end.ensures.boards in
+    let boards = c.boards-boards.ensures.boards in
     let test = c.loop-place-test.false in
     c.loop-place.invariant.counted ∙ ap (λ places. length (events_of_turns m.setup (configuration m) places)) (whole_round m.setup c.loop-place.place (omega arith))
 
