@@ -101,7 +101,7 @@ purpose-room setup events c t access well sound present (inl f) absent held =
     let gone : is_invalid t.outcome ≡ true → holds (master_state t) ≡ false = λ h. ap (λ (o : Outcome). holds (settled o (responses t.answers).ch)) (same_outcome-eq t.outcome (Fixed I) h) in
     let not_full : is_full setup c.rows t.master t.line ≡ false = false_from_ne_true (is_full setup c.rows t.master t.line) (λ full. both_ways (holds (master_state t)) (gone (f.room full)) held) in
     let reached = reached_local (table_of setup t.master) (state_at c.rows t.master (access_line access)) (kind_of access) (record { result = t.outcome; bus = Some t.event }) (responses t.answers).ch
-      (reached_at setup c.rows c.boards t.master (access_line access) sound.rows.each) f.alternative in
+    (reached_at setup c.rows c.boards t.master (access_line access) sound.rows.each) f.alternative in
     room-is setup c.rows t.master t.line (master_state t) well (board_there setup c.boards t.master access well present) reached held absent not_full
 
 others-from : {X : Type 0} (rack : Rack) (master line : ℕ) (rows : List Row) (k : ℕ) (xs : List X) → 1 ≤ k → k + length xs ≤ length rack.specs + 1
@@ -141,8 +141,8 @@ can-carry setup events c p t well sound s part is =
       master = part;
       line = line-there setup events c p t.line sound s (purpose-line setup events c t access well sound present purpose);
       others = others-fit p.rack setup c.rows t.master t.line t.event (other_holders setup c.rows t.master t.line) t.answers ts.answers
-        (others-from p.rack t.master t.line c.rows 1 setup.boards (omega arith) (omega (arith, long)));
+          (others-from p.rack t.master t.line c.rows 1 setup.boards (omega arith) (omega (arith, long)));
       room = λ absent held.
-        rack-room setup c p t.master t.line s
-        ∙ purpose-room setup events c t access well sound present purpose (ap (λ (rows : List Row). has_row rows t.master t.line) (sym s.rack.rows) ∙ absent) held;
+          rack-room setup c p t.master t.line s
+          ∙ purpose-room setup events c t access well sound present purpose (ap (λ (rows : List Row). has_row rows t.master t.line) (sym s.rack.rows) ∙ absent) held;
     }

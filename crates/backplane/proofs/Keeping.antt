@@ -87,9 +87,9 @@ histories-follow setup events c next h event place well sound can s at keeps = g
         ∙ ap (λ (n : ℕ). entries events ++ (let e : Entry = record { board = user; place = n; access = done.access; reply = done.reply } in e) ∷ []) (sym number) in
         record {
           entries =
-            ap (λ (hs : List (List Entry)). change_place (λ list. list ++ entry ∷ []) hs user) keeps.entries
-            ∙ entry-kept (entries events) entry user setup.boards refl there.low there.high
-            ∙ ap (λ (es : List Entry). map (λ b. entries_of b es) (board_places setup)) (sym entry_is);
+              ap (λ (hs : List (List Entry)). change_place (λ list. list ++ entry ∷ []) hs user) keeps.entries
+              ∙ entry-kept (entries events) entry user setup.boards refl there.low there.high
+              ∙ ap (λ (es : List Entry). map (λ b. entries_of b es) (board_places setup)) (sym entry_is);
           rooms = keeps.rooms;
         }
 

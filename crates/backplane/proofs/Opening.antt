@@ -70,9 +70,10 @@ all-push (t ∷ tables) (suc i) d l all here = let e : suc i + 1 ≡ suc (i + 1)
 -- One more table that is accepted.
 pub accepted-more : (tables all more : List Table) (i : ℕ) (table accepted : Table) → i < length tables → table ≡ get_or tables i table → (all ≡ take i tables) × AllByRecursion InClass (take i tables) → accepted ≡ table → InClass table → more ≡ all ++ accepted ∷ []
     → (more ≡ take (i + 1) tables) × AllByRecursion InClass (take (i + 1) tables)
-accepted-more tables all more i table accepted l is h same good e =
-    (e ∙ ap (λ (xs : List Table). xs ++ accepted ∷ []) h.0 ∙ ap (λ (t : Table). take i tables ++ t ∷ []) (same ∙ is) ∙ sym (take_more tables i table l),
-      all-push tables i table l h.1 (subst InClass is good))
+accepted-more tables all more i table accepted l is h same good e = (
+  e ∙ ap (λ (xs : List Table). xs ++ accepted ∷ []) h.0 ∙ ap (λ (t : Table). take i tables ++ t ∷ []) (same ∙ is) ∙ sym (take_more tables i table l),
+  all-push tables i table l h.1 (subst InClass is good),
+)
 
 -- ---- scripts
 

@@ -113,13 +113,13 @@ shown-put-by false true setup c p rack b l state words e s = record {
   boards = ap (λ (r : Rack). r.specs) e ∙ s.boards;
   rack = record {
     rows =
-      ap (λ (r : Rack). r.rows) e
-      ∙ ap (λ (rows : List Row). with_row (record { board = b; line = l; state = state; words = words; fill = (counts_at p.rack.counts b).fills }) rows) s.rack.rows
-      ∙ ap (λ (n : ℕ). with_row (record { board = b; line = l; state = state; words = words; fill = n }) c.rows)
+        ap (λ (r : Rack). r.rows) e
+        ∙ ap (λ (rows : List Row). with_row (record { board = b; line = l; state = state; words = words; fill = (counts_at p.rack.counts b).fills }) rows) s.rack.rows
+        ∙ ap (λ (n : ℕ). with_row (record { board = b; line = l; state = state; words = words; fill = n }) c.rows)
         (ap (λ (cs : List Counts). (counts_at cs b).fills) s.rack.counts ∙ fills-place c.boards b);
     counts =
-      ap (λ (r : Rack). r.counts) e ∙ ap (λ (cs : List Counts). change_place one_more_fill cs b) s.rack.counts
-      ∙ sym (map-place counts_from filled one_more_fill (λ q. refl) c.boards b);
+        ap (λ (r : Rack). r.counts) e ∙ ap (λ (cs : List Counts). change_place one_more_fill cs b) s.rack.counts
+        ∙ sym (map-place counts_from filled one_more_fill (λ q. refl) c.boards b);
   };
   memory = s.memory;
   numbers = s.numbers;
@@ -173,7 +173,7 @@ shown-settled : (setup : Setup) (c : Configuration) (p : Parts) (put spent : Rac
     → Settles p put spent requests places b line state words → line ≡ access_line done.access → words ≡ written done.access (words_at p.rack.rows b (access_line done.access))
     → PartsShow setup c p
     → PartsShow setup (ask false (spend (complete (put_copy c b (access_line done.access) state (written done.access (words_at c.rows b (access_line done.access)))) b) b) b)
-      (record p { rack = spent; requests = requests; places = places })
+    (record p { rack = spent; requests = requests; places = places })
 shown-settled setup c p put spent requests places b line state words done low h el ew s =
     let at = access_line done.access in
     let now = written done.access (words_at c.rows b at) in
@@ -227,8 +227,8 @@ shown-connect setup c p answering next phase t ea en ep s =
       rack = record {
         rows = ap (λ (r : Rack). r.rows) en ∙ shown.rows;
         counts =
-          ap (λ (r : Rack). r.counts) en ∙ ap (λ (cs : List Counts). change_place one_more_spent cs t.master) shown.counts
-          ∙ one-place (answered c.boards t.answers) t.master ∙ ap (map counts_from) (sym (answered-swap t.answers c.boards t.master));
+            ap (λ (r : Rack). r.counts) en ∙ ap (λ (cs : List Counts). change_place one_more_spent cs t.master) shown.counts
+            ∙ one-place (answered c.boards t.answers) t.master ∙ ap (map counts_from) (sym (answered-swap t.answers c.boards t.master));
       };
       memory = s.memory;
       numbers = s.numbers;
@@ -296,7 +296,7 @@ shown-data setup c p rack words places phase e et eb shows en ep s = record {
   numbers = s.numbers;
   raised = data-marks-by e.done (placed c e) e.master p.requests.raised (placed-marks c e p.requests.raised s.raised);
   places =
-    en ∙ ap (λ (ns : List ℕ). cond (is_some e.done) (change_place suc ns e.master) ns) (s.places ∙ sym (placed-places c e))
-    ∙ sym (data-places-by e.done (placed c e) e.master);
+      en ∙ ap (λ (ns : List ℕ). cond (is_some e.done) (change_place suc ns e.master) ns) (s.places ∙ sym (placed-places c e))
+      ∙ sym (data-places-by e.done (placed c e) e.master);
   phase = ep;
 }

@@ -138,7 +138,10 @@ fn an_owned_victim_is_flushed_first(rt: HostRuntime) -> Result<(), Fail> {
         board 1 number 3 table cb cached 1 1 choose first\nwrite 0 1\nwrite 4 2\nend\n"
     )?;
     let mut machine = machine(alloc, text.as_str())?;
-    assert_eq!(rt; turns(&mut machine, &[1, 1, 1, 1, 1, 1, 1, 1, 1, 1, 1, 1])?, 12);
+    assert_eq!(rt;
+        turns(&mut machine, &[1, 1, 1, 1, 1, 1, 1, 1, 1, 1, 1, 1])?,
+        12
+    );
     assert!(rt; machine.finished());
     assert_eq!(rt; memory(&machine, 0)?, 1);
     assert_eq!(rt; memory(&machine, 1)?, 0);
@@ -154,7 +157,8 @@ fn a_table_that_is_not_in_the_class_is_told(rt: HostRuntime) -> Result<(), Fail>
         "memory 1\n{UNCACHED}table x\nI read = I urd\nend\n\
         board 1 number 5 table un plain choose first\nend\n"
     )?;
-    let Err(AssembleFault::TableRefused { table, verdict }) = assembled(alloc, text.as_str())? else {
+    let Err(AssembleFault::TableRefused { table, verdict }) = assembled(alloc, text.as_str())?
+    else {
         return Err(Fail::from("not refused"));
     };
     assert_eq!(rt; table, 1);
