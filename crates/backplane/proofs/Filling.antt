@@ -1,6 +1,6 @@
 -- There is room for each row that an event brings.
-use Rattle.std.proofs.Common.{◌≡◌, ℕ, zero, suc, ◌+◌, ◌*◌, ◌<◌, ◌≤◌, Bool, true, false, cond, not, ◌&&◌, List, [], ◌∷◌, map, length, refl, ap, sym, subst, ◌∙◌, arith, Option, Some, None, option_map, ◌⊎◌, inl, inr}
-use Rattle.std.specs.Prelude.{unwrap_or, slice_index_or, filter, nat_le, nat_lt, ◌==◌, IsTrue, IsFalse}
+use Rattle.std.proofs.Common.{◌≡◌, ℕ, suc, ◌+◌, ◌*◌, ◌<◌, ◌≤◌, Bool, true, false, cond, not, ◌&&◌, List, [], ◌∷◌, length, refl, ap, sym, subst, ◌∙◌, arith, Some, option_map, inl, inr}
+use Rattle.std.specs.Prelude.{unwrap_or, slice_index_or, filter, nat_le, ◌==◌}
 use Rattle.std.specs.List.{AllByRecursion}
 use Rattle.std.proofs.lemmas.Bool.{both_ways, false_from_ne_true, leb-false, lt-ltb, eq-eqb}
 use Rattle.coherence.proofs.Lists.{in-all}
@@ -25,7 +25,7 @@ use Rattle.bus_model.specs.Board.{access_line, is_full, has_no_room, is_in_set}
 use Rattle.bus_model.specs.Carrying.{master_state}
 use Rattle.bus_model.specs.Connecting.{AnswersFit, other_holders, responses}
 use Rattle.bus_model.specs.Soundness.{Sound, PhaseSound, TransactionSound}
-use Rattle.bus_model.specs.Steps.{CanLocal, Purpose, ForAccess, ForVictim}
+use Rattle.bus_model.specs.Steps.{CanLocal, Purpose}
 use Rattle.board.specs.Rack.{Rack, can_fill, set_has_room, setup_of}
 use Rattle.board.specs.Rack.{IsBoard as RackBoard}
 use Rattle.coherence.proofs.Cells.{spec_there, permitted_local, reached_at}
@@ -36,7 +36,6 @@ use Rattle.coherence.proofs.RowChanges.{row_absent}
 use Rattle.coherence.proofs.Victims.{victim_is}
 use Rattle.data_phase.specs.Seen.{AreOthers}
 use Rattle.backplane.specs.declared.parts.Parts.{Parts}
-use Rattle.backplane.specs.Machine.{configuration_after}
 use Rattle.backplane.specs.Parts.{PartsShow, IsPartOf, CanCarry}
 
 -- A board that is not full for a line, and reaches a state that holds it, can fill a row of it.

@@ -1,7 +1,7 @@
 -- The requests of the arbiter are those of the configuration: the same boards compete, with the same numbers, and the same board wins.
-use Rattle.std.proofs.Common.{◌≡◌, ℕ, zero, suc, ◌+◌, ◌-◌, ◌≤◌, Bool, true, false, cond, List, [], ◌∷◌, map, length, get_or, refl, ap, sym, ◌∙◌, arith, Option, Some, None, option_map}
+use Rattle.std.proofs.Common.{◌≡◌, ℕ, zero, suc, ◌+◌, ◌-◌, ◌≤◌, Bool, true, false, cond, List, [], ◌∷◌, map, length, get_or, refl, ap, sym, ◌∙◌, arith, Option, Some, option_map}
 use Rattle.std.specs.Prelude.{slice_get, unwrap_or, filter, find, ◌&&◌, ◌==◌}
-use Rattle.bus_model.specs.Places.{at_place, places_from}
+use Rattle.bus_model.specs.Places.{places_from}
 use Rattle.bus_model.specs.Setup.{Setup, BoardSpec, number_of}
 use Rattle.bus_model.specs.Events.{Grant, Raise, Transaction}
 use Rattle.bus_model.specs.Configuration.{Configuration, Progress, Idle, Granted, Connected, fresh, is_raised}

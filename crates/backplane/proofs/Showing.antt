@@ -1,23 +1,23 @@
 -- The parts after each change show the configuration after it.
-use Rattle.std.proofs.Common.{◌≡◌, ℕ, zero, suc, ◌-◌, ◌≤◌, Bool, true, false, cond, List, [], ◌∷◌, map, refl, ap, sym, ◌∙◌, Option, Some, None, arith}
+use Rattle.std.proofs.Common.{◌≡◌, ℕ, zero, suc, ◌≤◌, Bool, true, false, cond, List, [], ◌∷◌, map, refl, ap, sym, ◌∙◌, Option, Some, None}
 use Rattle.std.specs.Prelude.{unwrap_or, slice_get, filter_map, if◌then◌else◌, is_some}
 use Rattle.moesi_state.specs.declared.State.{State}
 use Rattle.moesi_state.specs.States.{holds}
-use Rattle.bus_model.specs.Places.{change_index, change_place}
+use Rattle.bus_model.specs.Places.{change_place}
 use Rattle.bus_model.specs.Setup.{Setup}
 use Rattle.bus_model.specs.Events.{Answer, Transaction, Carried, Done}
 use Rattle.bus_model.specs.Configuration.{Configuration, Row, Progress, fresh, progress_of, has_row, is_granted, lines_of_words, words_at}
 use Rattle.bus_model.specs.Configuration as model
-use Rattle.bus_model.specs.Effects.{asking, spent, filled, completed, answered, ask, spend, complete, in_phase, without_grant, put_copy, put_memory, change_copy, change_rows, fill_copy, copy_as, with_row, drop_copy}
+use Rattle.bus_model.specs.Effects.{asking, spent, filled, completed, answered, ask, spend, complete, in_phase, without_grant, put_copy, put_memory, change_copy, change_rows, fill_copy, copy_as, with_row}
 use Rattle.bus_model.specs.Carrying.{written, answering_row, memory_words, master_words, state_of_master}
 use Rattle.bus_model.specs.Board.{access_line}
 use Rattle.bus_model.specs.Steps.{after_local, after_connect, after_data, complete_if}
 use Rattle.arbiter.specs.Raised.{Requests, with_request}
 use Rattle.board.specs.Rack.{Rack, Counts, counts_at, no_counts, one_more_fill, one_more_spent, rack_spent, rack_put, rack_changed, rack_filled}
-use Rattle.board.specs.Shown.{RackShows, counts_from}
-use Rattle.connect_phase.specs.Answering.{rack_answered, with_answers}
+use Rattle.board.specs.Shown.{counts_from}
+use Rattle.connect_phase.specs.Answering.{rack_answered}
 use Rattle.connect_phase.proofs.Showing.{one-place, answers-spent}
-use Rattle.data_phase.specs.Seen.{Shows, rack_after}
+use Rattle.data_phase.specs.Seen.{Shows}
 use Rattle.backplane.specs.declared.phase.Phase.{Phase}
 use Rattle.backplane.specs.declared.phase.Phase.TheVariants.{Idle}
 use Rattle.backplane.specs.declared.parts.Parts.{Parts}
