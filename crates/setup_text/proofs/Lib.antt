@@ -18,6 +18,7 @@ pub mod HeadLines
 pub mod BookFaults
 pub mod LineFaults
 pub mod BoardFaults
+pub mod BoardStops
 pub mod Writes
 pub mod WrittenWords
 pub mod WrittenTables
