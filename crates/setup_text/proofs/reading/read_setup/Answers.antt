@@ -1,5 +1,6 @@
 use Rattle.setup_text.proofs.Setups.{is_spelled}
-use Rattle.setup_text.proofs.BoardStops.{board_free}
+use Rattle.setup_text.proofs.BoardRefused.{board_stops}
+use Rattle.setup_text.proofs.BodyFaults.{body_stops}
 use Rattle.setup_text.proofs.ReadAgain.{is_read, is_read_again}
 use Rattle.setup_text.proofs.reading.read_setup.Goals as goal
 
