@@ -101,7 +101,7 @@ no_boards_draft n ws ts low high fits are = record {
 pub lines_of_draft : (s : SetupText) → IsDraft (setup_of s) → (1 ≤ s.lines) × (s.lines ≤ 4096)
 lines_of_draft s d = let same = lines_are s.lines s.words in (omega (arith, d.lines_low), omega (arith, d.lines_high))
 
-no_tables : AreTables []
+pub no_tables : AreTables []
 no_tables = record { few = omega arith; names = λ i j d low high. absurd (omega arith) }
 
 pub stands_memory : (n : ℕ) → 1 ≤ n → n ≤ 4096 → StandsSoFar (text n [] [] [])

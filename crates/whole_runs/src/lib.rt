@@ -8,3 +8,5 @@ mod tables;
 mod tests;
 #[cfg(test)]
 mod traces;
+#[cfg(test)]
+mod turns;

@@ -30,18 +30,19 @@ fn event(line: &str) -> Result<Event, Fail> {
     Ok(event)
 }
 
-/// Whether an event is applied, or refused where it is no step, and the journal has these many events then.
-fn is_as_told(
-    machine: &mut Machine,
-    event: &Event,
-    told: Result<(), NotARun>,
-    taken: usize,
-) -> bool {
-    let answer = machine.apply(event);
-    answer == told && machine.journal().len() == taken
+/// Whether an event is applied, and added to the journal.
+fn is_applied(machine: &mut Machine, event: &Event) -> bool {
+    let before = machine.journal().len();
+    machine.apply(event).is_ok() && machine.journal().len() > before
 }
 
-/// Applies the events of a run, one a line. A line that begins with `!` is no step there: it is refused, and changes nothing.
+/// Whether an event is refused, and nothing is added to the journal.
+fn is_refused(machine: &mut Machine, event: &Event) -> bool {
+    let before = machine.journal().len();
+    machine.apply(event) == Err(NotARun) && machine.journal().len() == before
+}
+
+/// Applies the events of a run, one a line. A line that begins with `!` is no step there, and is to be refused.
 /// The answer is the first line that goes otherwise, or none where all go so and the run is complete.
 fn first_otherwise<'a>(
     alloc: Global,
@@ -49,14 +50,10 @@ fn first_otherwise<'a>(
     lines: &[&'a str],
 ) -> Result<Option<&'a str>, Fail> {
     let mut machine = machine(alloc, setup)?;
-    let mut taken = 0;
     for line in lines {
         let goes_so = match line.strip_prefix("! ") {
-            Some(other) => is_as_told(&mut machine, &event(other)?, Err(NotARun), taken),
-            None => {
-                taken += 1;
-                is_as_told(&mut machine, &event(line)?, Ok(()), taken)
-            }
+            Some(other) => is_refused(&mut machine, &event(other)?),
+            None => is_applied(&mut machine, &event(line)?),
         };
         if !goes_so {
             return Ok(Some(line));

@@ -12,6 +12,7 @@ ghost use Rattle.backplane.specs.Machine.{configuration, IsBoard};
 
 use crate::machine::Machine;
 use bus_signals::{Access, BoardNo, LineNo};
+use data_phase::get_memory;
 use flat_memory::Entry;
 use journal::Event;
 use moesi_state::State;
@@ -68,7 +69,7 @@ impl Machine {
         ensures lowest { result ≡ find (λ board. is_some (present_access self.now.setup (configuration self.now).boards board)) (board_places self.now.setup) }
         ensures none { IsNone result ↔ Complete self.now.setup (configuration self.now) }
     {
-        for place in 0..self.boards() {
+        for place in 0..self.parts.rack.boards() {
             let board = BoardNo(place + 1);
             if self.present(board).is_some() {
                 return Some(board);
@@ -96,7 +97,7 @@ impl Machine {
         requires { line < line_count self.now.setup }
         ensures { result ≡ memory_line (configuration self.now).memory line }
     {
-        self.parts.memory.line(line)
+        get_memory(&self.parts.memory, line)
     }
 
     /// The state and the words of a board's copy of a line.
