@@ -8,5 +8,3 @@ mod tables;
 mod tests;
 #[cfg(test)]
 mod traces;
-#[cfg(test)]
-mod turns;
