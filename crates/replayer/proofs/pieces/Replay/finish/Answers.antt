@@ -1,13 +1,10 @@
 use Rattle.std.proofs.Common.{sym, ap, ◌∙◌, subst}
-use Rattle.std.specs.Prelude.{List, ℕ, Result, ◌≡◌}
 use Rattle.backplane.specs.Machine.{Machine, opened}
-use Rattle.trace_lines.specs.declared.fault.ReplayFault.{ReplayFault}
 use Rattle.trace_lines.specs.Lines.{trace_of}
-use Rattle.trace_lines.specs.Replaying.{Place, ending, outcome}
+use Rattle.trace_lines.specs.Replaying.{Place, ending}
 use Rattle.trace_lines.proofs.Ended.{replayed_left}
 use Rattle.replayer.specs.Replaying.{step, close}
 use Rattle.replayer.specs.Runs.{Accepts}
-use Rattle.replayer.specs.Standing.{StandsFor}
 use Rattle.replayer.proofs.Saying.{says_of, accepts}
 use Rattle.replayer.proofs.pieces.Replay.finish.Goals as goal
 
