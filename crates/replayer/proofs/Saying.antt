@@ -17,7 +17,7 @@ use Rattle.replayer.specs.Replaying.{step, lowest_unfinished, accepted, close}
 use Rattle.replayer.specs.Runs.{BeginWithRun, AreCompleteRun, Says, Accepts}
 use Rattle.replayer.proofs.Tracing.{after_events, Begin, Traced, line_is, traced, traced_all, after_is, leads_of, may_of}
 
-after_opened : (setup : Setup) (events : List Event) → after_events (opened setup) events ≡ record { setup = setup; journal = events }
+pub after_opened : (setup : Setup) (events : List Event) → after_events (opened setup) events ≡ record { setup = setup; journal = events }
 after_opened setup events = after_is (opened setup) events
 
 begins : (setup : Setup) (lines : List Line) (events : List Event) (rest : List Line) → Begin (opened setup) lines events rest → BeginWithRun setup lines events rest
