@@ -30,7 +30,7 @@ use Rattle.setup_text.proofs.Follows.{Follows, next_end, begins_by}
 use Rattle.setup_text.proofs.LineFaults.{decimal_same, FreeHere, free_nil, free_push, board_is_free, Begins, Faulty, unfit_at, judged_at, Refused, NumberTail, WordTail, NameTail, EndTail, number_refused, from_one_refused, word_refused, end_refused, name_refused, refused_at, differ}
 use Rattle.setup_text.proofs.BoardFaults.{found_table, found_same, reaches_other, stays_only, numbers_of, has_contains, new_contains, b1, b2, b3, b4, b5, b6, begins_place, begins_word, begins_number_word, begins_number, begins_table_word, begins_behind, expects_place, expects_number_word, expects_number, expects_table_word, expects_name, RestTail, expects_rest, ShapeTail, shape_tail, sets_tail, ways_tail, ChoiceTail, choice_tail, ChooserTail, chooser_tail, seed_tail, done_tail}
 
-abbrev boards_of : SetupText → List BoardSpec
+abbrev pub boards_of : SetupText → List BoardSpec
 boards_of s = (setup_of s).boards
 
 abbrev seeded_by : Result (ℕ × Words) SetupKind → Result (Choose × Words) SetupKind
@@ -51,7 +51,7 @@ spec_by n table shape x = x >>= λ choose. Ok (board_spec n table shape choose)
 abbrev shaped_by : ℕ → ℕ → Result (Shape × Words) SetupKind → Result BoardSpec SetupKind
 shaped_by n table x = x >>= λ shape. board_back shape.1 >>= λ choose. Ok (board_spec n table shape.0 choose)
 
-abbrev tabled_by : ℕ → Result (ℕ × Bool × Words) SetupKind → Result BoardSpec SetupKind
+abbrev pub tabled_by : ℕ → Result (ℕ × Bool × Words) SetupKind → Result BoardSpec SetupKind
 tabled_by n x = x >>= λ t. shape_at t.1 t.2 >>= λ shape. board_back shape.1 >>= λ choose. Ok (board_spec n t.0 shape.0 choose)
 
 -- what was read of a board line up to the name of its table
@@ -66,7 +66,7 @@ pub record Fresh (s : SetupText) (p n : ℕ) (name : List ℕ) (found : ℕ × B
 
 -- ---- words that fail no side condition
 
-free_1 : (s : SetupText) → length (boards_of s) < 16 → FreeHere s b1
+pub free_1 : (s : SetupText) → length (boards_of s) < 16 → FreeHere s b1
 free_1 s few = free_push s [] (codes "board") (free_nil s) (board_is_free s few)
 
 free_2 : (s : SetupText) (p : ℕ) → length (boards_of s) < 16 → p ≡ length (boards_of s) + 1 → FreeHere s (b2 p)
@@ -357,7 +357,7 @@ module _ (s : SetupText) (h : StandsSoFar s) (rest : List Place) (line : ℕ) wh
     small : p < 2 ^ 32
     small = omega arith
 
-    table_stops : (n : ℕ) (ws : Words) (k : SetupKind) → 1 ≤ n → n ≤ 255 → has_number (boards_of s) n ≡ false → tabled_by n (board_table (setup_of s).tables ws) ≡ Err k → Stops (b4 p n ++ ws) k
+    pub table_stops : (n : ℕ) (ws : Words) (k : SetupKind) → 1 ≤ n → n ≤ 255 → has_number (boards_of s) n ≡ false → tabled_by n (board_table (setup_of s).tables ws) ≡ Err k → Stops (b4 p n ++ ws) k
     unfolding board_table table_name_at
     table_stops n ws k low high new e = word_case (this_word (codes "table") ws) refl e
       where
@@ -404,7 +404,7 @@ module _ (s : SetupText) (h : StandsSoFar s) (rest : List Place) (line : ℕ) wh
             (subst (λ (x : SetupKind). Refused (NumberTail 1 255) ws x Number) same (from_one_refused 255 ws j (omega arith) r)) (λ t others g. expects_number s p t others g) refl refl
 
     -- the word `number`
-    word_stops : (ws : Words) (k : SetupKind) → (this_word (codes "number") ws >>= λ after. number_from_one 255 after >>= new_number (boards_of s)) ≡ Err k → Stops (b2 p ++ ws) k
+    pub word_stops : (ws : Words) (k : SetupKind) → (this_word (codes "number") ws >>= λ after. number_from_one 255 after >>= new_number (boards_of s)) ≡ Err k → Stops (b2 p ++ ws) k
     word_stops ws k e = go (this_word (codes "number") ws) refl e
       where
         go : (x : Result Words SetupKind) → this_word (codes "number") ws ≡ x → (x >>= λ after. number_from_one 255 after >>= new_number (boards_of s)) ≡ Err k → Stops (b2 p ++ ws) k
