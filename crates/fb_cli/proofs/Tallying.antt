@@ -29,7 +29,7 @@ pub counted_output : (seed : ℕ) (setup : Setup) (first last : Machine) (access
     → record { status = 0; text = bytes } ≡ tally_output seed
 counted_output seed setup first last accesses journal before bytes made start counted turned same empty written =
     let text =
-        written
-        ∙ ap (λ (b : List ℕ). b ++ tally_text seed journal (entries journal)) empty
-        ∙ ap (λ (j : List Event). tally_text seed j (entries j)) (journal_is seed setup first last accesses journal made start counted turned same) in
+    written
+    ∙ ap (λ (b : List ℕ). b ++ tally_text seed journal (entries journal)) empty
+    ∙ ap (λ (j : List Event). tally_text seed j (entries j)) (journal_is seed setup first last accesses journal made start counted turned same) in
     λ i. record { status = 0; text = text i }

@@ -46,11 +46,7 @@ fn finish(replay: Replay) -> Result<Machine, TraceFileFault>
 }
 
 /// Feeds a replay with the file that was started, to its end.
-fn feed_all<F: Shelf>(
-    replay: &mut Replay,
-    shelf: &mut F,
-    limit: u64,
-) -> Result<(), TraceFileFault>
+fn feed_all<F: Shelf>(replay: &mut Replay, shelf: &mut F, limit: u64) -> Result<(), TraceFileFault>
     requires limit { limit < 2 ^ 63 }
     ensures setup { replay.new.setup ≡ replay.old.setup }
     ensures fed { OnOk result (IfSome (F.rest shelf.old) (λ bytes. (length bytes ≤ limit) × FedWith replay.old bytes replay.new)) }
