@@ -129,3 +129,42 @@ fn setups_are_generated(rt: HostRuntime) -> Result<(), Fail> {
     assert_eq!(rt; status, 0);
     Ok(())
 }
+
+const NO_ACCESSES: &str = "memory 1\ntable un\nI read = I urd\nI write = I uwr\nI pass = I\nI flush = I\nend\n\
+    board 1 number 5 table un plain choose first\nend\n";
+
+#[test]
+fn a_write_may_fail(rt: HostRuntime) -> Result<(), Fail> {
+    let alloc = rt.alloc();
+    let mut two = Vec::new(alloc);
+    for (name, text) in [("F", NO_ACCESSES), ("S", "")] {
+        two.push((
+            String::from_str(alloc, name)?,
+            text.as_bytes().to_vec(alloc)?,
+        ))?;
+    }
+    let mut shelf = SureShelf::new(two);
+    let mut failing = Vec::new(alloc);
+    failing.push(2)?;
+    let mut sink = MemSink::new(alloc, 100, 3, failing)?;
+    let status = plain(alloc, &words(alloc, "run F S")?, &mut shelf, &mut sink);
+    assert_eq!(rt; status, 5);
+    assert_eq!(rt; sink.taken(), b"end".as_slice());
+    Ok(())
+}
+
+#[test]
+fn a_long_setup_is_told(rt: HostRuntime) -> Result<(), Fail> {
+    let alloc = rt.alloc();
+    let mut one = Vec::new(alloc);
+    one.push((
+        String::from_str(alloc, "F")?,
+        vec![in alloc; b'#'; 8_388_609]?,
+    ))?;
+    let mut shelf = SureShelf::new(one);
+    let mut sink = MemSink::new(alloc, 100, 100, Vec::new(alloc))?;
+    let status = plain(alloc, &words(alloc, "show F")?, &mut shelf, &mut sink);
+    assert_eq!(rt; status, 7);
+    assert_eq!(rt; sink.taken(), b"fault long setup 8388609\n".as_slice());
+    Ok(())
+}
