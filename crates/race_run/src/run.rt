@@ -3,6 +3,7 @@
 ghost use Rattle.std.specs.Prelude.{◌≡◌, ℕ, ◌+◌, ◌^◌, ◌<◌, List, ◌++◌, All, IfOk, IfErr, IsTrue, IsFalse, Some, length, slice_get, slice_index_or};
 ghost use Rattle.bus_model.specs.Events.{Event};
 ghost use Rattle.bus_model.specs.Runs.{Complete};
+ghost use Rattle.bus_model.specs.Setup.{WellFormed};
 ghost use Rattle.bus_model.specs.Soundness.{Sound};
 ghost use Rattle.backplane.specs.Machine.{configuration};
 ghost use Rattle.ruled_turn.specs.Entries.{GoesOn};
@@ -78,6 +79,7 @@ fn close(shared: Ruled<Racing>, seats: Vec<BoardSeat<Racing>>) -> Machine
     ensures setup { result.setup ≡ (given shared).machine.setup }
     ensures journal { GoesOn (made (given shared).machine.journal) (made result.journal) }
     ensures seen { All (λ s. GoesOn (seen s) (made result.journal)) seats.items }
+    ensures well { WellFormed result.setup }
     ensures sound { Sound result.setup result.journal (configuration result) }
 {
     let Racing { machine } = shared.close(seats);
