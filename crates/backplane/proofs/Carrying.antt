@@ -1,5 +1,5 @@
 -- What the facts of a data phase tell together: it may happen.
-use Rattle.std.proofs.Common.{Bool, List, None, Option, Some, [], ap, refl, subst, sym, true, ℕ, ◌∙◌, ◌∷◌, ◌≡◌}
+use Rattle.std.proofs.Common.{Bool, Option, [], ap, refl, subst, sym, true, ℕ, ◌∙◌, ◌∷◌, ◌≡◌}
 use Rattle.std.proofs.lemmas.Option.{same_Some}
 use Rattle.std.specs.Prelude.{IsSome, is_some, ◌↔◌}
 use Rattle.bus_signals.specs.declared.Access.{Access}
@@ -8,7 +8,6 @@ use Rattle.bus_model.specs.Events.{Board, Carried, Done, Memory, Nobody, Source,
 use Rattle.bus_model.specs.Configuration.{Configuration, Connected, present_access}
 use Rattle.bus_model.specs.Carrying.{carried_of, done_of, source_of, source_words}
 use Rattle.bus_model.specs.Steps.{CanData}
-use Rattle.board.specs.Rack.{Rack}
 use Rattle.data_phase.specs.Seen.{carried_for, seen}
 use Rattle.backplane.specs.declared.parts.Parts.{Parts}
 use Rattle.backplane.specs.Parts.{PartsShow, connection_in}

@@ -1,6 +1,6 @@
 -- What the facts of a transaction tell together: it may be connected.
-use Rattle.std.proofs.Common.{Bool, List, None, Option, Some, [], ap, cond, false, not, refl, subst, sym, true, ℕ, ◌∙◌, ◌∷◌, ◌≡◌, ◌||◌, ◌&&◌, ◌==◌, length, inl, inr}
-use Rattle.std.proofs.lemmas.Bool.{and_from, and_parts, cases_Bool, eq-eqb, eqb-true}
+use Rattle.std.proofs.Common.{Bool, List, None, Option, Some, [], ap, false, not, refl, subst, sym, true, ℕ, ◌∙◌, ◌∷◌, ◌≡◌, ◌||◌, ◌==◌, length}
+use Rattle.std.proofs.lemmas.Bool.{and_from, and_parts, eq-eqb, eqb-true}
 use Rattle.std.proofs.lemmas.Option.{same_Some}
 use Rattle.std.specs.Prelude.{IsTrue, is_some, option_map, ◌↔◌}
 use Rattle.bus_signals.specs.declared.Access.{Access}
@@ -8,7 +8,9 @@ use Rattle.bus_signals.specs.declared.BusEvent.{BusEvent}
 use Rattle.bus_signals.specs.declared.BusEvent.TheVariants.{Flu}
 use Rattle.moesi_state.specs.declared.State.{State}
 use Rattle.moesi_state.specs.declared.State.TheVariants.{I}
+use Rattle.moesi_state.specs.declared.Outcome.{Outcome}
 use Rattle.moesi_state.specs.declared.Outcome.TheVariants.{Fixed}
+use Rattle.class_relation.proofs.Spelling.{same_outcome-eq}
 use Rattle.moesi_state.specs.Outcomes.{is_invalid}
 use Rattle.moesi_state.specs.States.{owns}
 use Rattle.class_relation.specs.Actions.{has_answer, has_local}
@@ -37,6 +39,10 @@ full_is setup rows board line well there = go (victim setup rows board line) ref
     go : (o : Option (ℕ × State)) → victim setup rows board line ≡ o → is_some (option_map {U = ℕ} (λ (v : ℕ × State). v.0) o) ≡ is_full setup rows board line
     go None e = none e (is_full setup rows board line) refl
     go (Some v) e = sym (victim_is setup rows board line v e).3.full
+
+-- An outcome passes as the fixed I exactly where it is.
+pub invalid_is : (outcome : Outcome) → (is_invalid outcome ≡ true) ↔ (outcome ≡ Fixed I)
+invalid_is outcome = (same_outcome-eq outcome (Fixed I), λ e. ap is_invalid e)
 
 pub access_told : (setup : Setup) (rows : List Row) (t : Transaction) (access : Access) (line alternative room : Bool)
     → ((line ≡ true) ↔ (t.line ≡ access_line access)) → alternative ≡ has_local (cell_of setup rows t.master access) (record { result = t.outcome; bus = Some t.event })

@@ -86,11 +86,11 @@ answered-fits rack next answers b e few fit =
     let more = answered-low answers rack.counts b in
     rw e (omega (arith, low, more))
 
-length-places : {X : Type 0} (xs : List X) (k : ℕ) → length (places_from k xs) ≡ length xs
+pub length-places : {X : Type 0} (xs : List X) (k : ℕ) → length (places_from k xs) ≡ length xs
 length-places [] k = refl
 length-places (x ∷ xs) k = ap suc (length-places xs (suc k))
 
-length-filtered : {X : Type 0} (p : X → Bool) (xs : List X) → length (filter p xs) ≤ length xs
+pub length-filtered : {X : Type 0} (p : X → Bool) (xs : List X) → length (filter p xs) ≤ length xs
 length-filtered p [] = omega arith
 length-filtered p (x ∷ xs) = go (p x) (length-filtered p xs)
   where

@@ -1,5 +1,5 @@
 -- What tests tell together.
-use Rattle.std.proofs.Common.{Bool, List, [], ap, false, not, refl, true, ◌&&◌, ◌∙◌, ◌∷◌, ◌≡◌, sym}
+use Rattle.std.proofs.Common.{Bool, List, [], ap, false, not, refl, true, ◌∙◌, ◌∷◌, ◌≡◌, sym}
 use Rattle.std.proofs.lemmas.Bool.{and_from, and_parts, not-true}
 use Rattle.std.specs.Prelude.{◌↔◌, ◌||◌}
 use Rattle.std.specs.List.{list_all}

@@ -1,7 +1,7 @@
 -- What the facts of a grant tell together: it may happen.
-use Rattle.std.proofs.Common.{Bool, List, [], ap, arith, length, refl, sym, true, ℕ, ◌∙◌, ◌∷◌, ◌≡◌, ◌≤◌, ◌&&◌, ◌==◌}
+use Rattle.std.proofs.Common.{Bool, List, [], ap, arith, length, refl, sym, true, ℕ, ◌∙◌, ◌∷◌, ◌≡◌, ◌&&◌, ◌==◌}
 use Rattle.std.proofs.lemmas.Bool.{and_from, and_parts, eq-eqb, eqb-true}
-use Rattle.std.specs.Prelude.{IsTrue, ◌↔◌}
+use Rattle.std.specs.Prelude.{◌↔◌}
 use Rattle.settling.specs.Settling.{highest, settled_lines, settled_rounds}
 use Rattle.arbiter.specs.Raised.{competitors}
 use Rattle.board.specs.Rack.{setup_of}

@@ -17,4 +17,9 @@ pub mod Answering
 pub mod Turning
 pub mod Permitted
 pub mod Listing
-pub mod Running
+pub mod Stepping
+pub mod Filling
+pub mod Keeping
+pub mod Moving
+pub mod Reading
+pub mod Opening

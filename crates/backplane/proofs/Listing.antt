@@ -83,3 +83,9 @@ new-list rs i r lists new v l is en ei er h =
     ∙ ap (λ (x : Histories). made (x.entries ++ [] ∷ []) (x.rooms ++ r ∷ [])) h
     ∙ sym (empty-push (take i rs) r)
     ∙ ap empty_histories (ap (λ (n : ℕ). take i rs ++ n ∷ []) is ∙ sym (take_more rs i 0 l))
+
+-- One more number 0.
+pub zeros-more : {X : Type 0} (xs : List X) (i : ℕ) → i < length xs → ◌++◌ {A = ℕ} (map (λ (x : X). zero) (take i xs)) (zero ∷ []) ≡ map (λ (x : X). zero) (take (i + 1) xs)
+zeros-more [] i l = absurd (omega arith)
+zeros-more (x ∷ xs) zero l = refl
+zeros-more (x ∷ xs) (suc i) l = let e : suc i + 1 ≡ suc (i + 1) = omega arith in rw e (ap (λ (ns : List ℕ). zero ∷ ns) (zeros-more xs i (omega arith)))

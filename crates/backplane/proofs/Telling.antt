@@ -1,5 +1,5 @@
 -- What the facts of an event tell together: the event may happen.
-use Rattle.std.proofs.Common.{Bool, List, None, Option, Some, [], ap, not, refl, subst, sym, true, ℕ, ◌∙◌, ◌∷◌, ◌≡◌, ◌||◌}
+use Rattle.std.proofs.Common.{Bool, None, Option, Some, [], ap, not, refl, subst, sym, true, ℕ, ◌∙◌, ◌∷◌, ◌≡◌, ◌||◌}
 use Rattle.std.proofs.lemmas.Option.{same_Some}
 use Rattle.std.specs.Prelude.{IsFalse, IsTrue, option_map, ◌↔◌}
 use Rattle.bus_signals.specs.declared.Access.{Access}

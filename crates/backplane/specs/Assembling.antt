@@ -1,5 +1,5 @@
 -- Why no machine is made of a setup.
-use Rattle.std.specs.Prelude.{◌≡◌, ◌≢◌, ℕ, ◌<◌, List, [], length, map, slice_index_or}
+use Rattle.std.specs.Prelude.{◌≡◌, ℕ, ◌<◌, List, [], length, map, slice_index_or}
 use Rattle.bus_signals.specs.declared.Access.{Access}
 use Rattle.class_relation.specs.Tables.{Table, empty_table}
 use Rattle.table_check.specs.declared.verdict.CellFault.{CellFault}
@@ -21,9 +21,14 @@ pub record FirstRefused (tables : List Table) (index : ℕ) (verdict : List Cell
   pub there : index < length tables
   pub first : (earlier : ℕ) → earlier < index → InClass (table_at tables earlier)
   pub told : verdict ≡ faults (table_at tables index)
-  pub refused : verdict ≢ []
+  pub refused : ¬ (InClass (table_at tables index))
 
 -- A table that is not in the class is told, the first one. Want of memory may always be told.
 abbrev pub IsRefused : List Table → AssembleFault → Type 0
 IsRefused tables (TableRefused table verdict) = FirstRefused tables table verdict
 IsRefused tables NoMemory = Unit {0}
+
+-- A table at this place is told with its faults where it is not in the class.
+abbrev pub RefusedAt : Table → ℕ → AssembleFault → Type 0
+RefusedAt table place (TableRefused index verdict) = (index ≡ place) × (verdict ≡ faults table) × ¬ (InClass table)
+RefusedAt table place NoMemory = Unit {0}

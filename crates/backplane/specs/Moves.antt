@@ -1,6 +1,5 @@
 -- What a turn of the model does to a machine, and what the caller is told of it.
 use Rattle.bus_model.specs.Turns.{Turn, Did, Waits, Finished, Why, LineHeld, BusTaken, turn, events_of_turns}
-use Rattle.bus_model.specs.Events.{Event}
 use Rattle.backplane.specs.declared.moved.Moved.{Moved}
 use Rattle.backplane.specs.declared.moved.Why.{Why as Cause}
 use Rattle.backplane.specs.Machine.{Machine, happened, configuration}

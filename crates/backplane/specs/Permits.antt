@@ -1,11 +1,11 @@
 -- What a test of an event tells.
-use Rattle.std.specs.Prelude.{◌≡◌, ◌↔◌, ℕ, Bool, true, false, not, ◌&&◌, ◌==◌, List, [], ◌∷◌, Option, Some, IsTrue, length}
+use Rattle.std.specs.Prelude.{◌≡◌, ◌↔◌, ℕ, Bool, true, false, ◌&&◌, ◌==◌, List, [], ◌∷◌, Some, IsTrue, filter, length}
 use Rattle.bus_signals.specs.declared.Access.{Access}
 use Rattle.bus_signals.specs.declared.BusEvent.{BusEvent}
 use Rattle.class_relation.specs.Actions.{has_answer}
 use Rattle.class_relation.specs.Tables.{answers_of}
 use Rattle.bus_model.specs.Setup.{Setup, WellFormed, table_of, number_of}
-use Rattle.bus_model.specs.Events.{Event, Answer}
+use Rattle.bus_model.specs.Events.{Event, Answer, Transaction}
 use Rattle.bus_model.specs.Configuration.{Configuration, Row, present_access, state_at}
 use Rattle.bus_model.specs.Steps.{Can}
 use Rattle.bus_model.specs.Soundness.{Sound}
@@ -13,7 +13,8 @@ use Rattle.settling.specs.Settling.{highest, settled_lines, settled_rounds}
 use Rattle.backplane.specs.declared.parts.Parts.{Parts}
 use Rattle.backplane.specs.Parts.{PartsShow, IsPartOf}
 use Rattle.arbiter.specs.Raised.{competitors, has_raised}
-use Rattle.board.specs.Rack.{setup_of}
+use Rattle.board.specs.Rack.{Rack, setup_of}
+use Rattle.connect_phase.specs.Answering.{is_other_holder}
 
 -- The parts show a sound configuration of a setup, to which these events have led.
 pub record SoundParts (parts : Parts) (setup : Setup) (events : List Event) (c : Configuration) : Type 0 where
@@ -26,13 +27,17 @@ pub record AreOfOneSetup (parts : Parts) : Type 0 where
   pub requests : length parts.requests.numbers ≡ length parts.rack.specs
   pub places : length parts.places.items ≡ length parts.rack.specs
 
--- The answer tells whether an event may happen in the configuration that the parts show.
-abbrev pub Tells : Parts → Event → Bool → Type 0
-Tells parts event answer =
+-- The answer tells whether a fact holds of the configuration that the parts show.
+abbrev pub TellsWhether : Parts → (Setup → Configuration → Type 0) → Bool → Type 0
+TellsWhether parts Fact answer =
     (setup : Setup) (events : List Event) (c : Configuration)
-    → SoundParts parts setup events c → (IsTrue answer ↔ Can setup c event)
+    → SoundParts parts setup events c → (IsTrue answer ↔ Fact setup c)
 
--- The same, where this is the present access of a board.
+-- The answer tells whether an event may happen.
+abbrev pub Tells : Parts → Event → Bool → Type 0
+Tells parts event answer = TellsWhether parts (λ setup c. Can setup c event) answer
+
+-- The answer tells whether an event may happen, where this is the present access of a board.
 abbrev pub TellsFor : Parts → ℕ → Access → Event → Bool → Type 0
 TellsFor parts board access event answer =
     (setup : Setup) (events : List Event) (c : Configuration)
@@ -51,6 +56,11 @@ do_answers_fit setup rows line event (board ∷ boards) (a ∷ answers) =
     does_answer_fit setup rows line event board a && rest
 do_answers_fit setup rows line event [] (a ∷ answers) = false
 do_answers_fit setup rows line event (board ∷ boards) [] = false
+
+-- Whether these answers to a transaction are those of the boards of a list that hold its line, but for the master.
+abbrev pub do_fit_among : Rack → Transaction → List ℕ → List Answer → Bool
+do_fit_among rack t boards answers =
+    do_answers_fit (setup_of rack) rack.rows t.line t.event (filter (is_other_holder rack.rows t.master t.line) boards) answers
 
 -- Whether a contest of these numbers, of which there is one at least, is won by a number, and settles to these lines in this many rounds.
 abbrev pub does_settle : List ℕ → ℕ → ℕ → ℕ → Bool

@@ -1,12 +1,16 @@
 //! A machine is made of a setup.
 
-ghost use Rattle.std.specs.Prelude.{◌≡◌, ◌≤◌, IfOk, IfErr, All, length, map, replicate};
+ghost use Rattle.std.specs.Prelude.{◌≡◌, ◌≤◌, IfOk, IfErr, length, map};
+ghost use Rattle.std.specs.List.{AllByRecursion};
 ghost use Rattle.bus_model.specs.Setup.{AllInClass, BoardSpec};
 ghost use Rattle.bus_model.specs.Configuration.{opening};
 ghost use Rattle.table_check.specs.Accepted.{InClass};
+ghost use Rattle.board.specs.Rack.{AllFit, empty_rack};
 ghost use Rattle.backplane.specs.Machine.{opened};
 ghost use Rattle.backplane.specs.Parts.{PartsShow};
-ghost use Rattle.backplane.specs.Assembling.{IsRefused, script_lengths};
+ghost use Rattle.class_relation.specs.Tables.{Table};
+ghost use Rattle.table_check.specs.Refusals.{IsRefusal};
+ghost use Rattle.backplane.specs.Assembling.{IsRefused, RefusedAt, script_lengths};
 
 use crate::histories::Histories;
 use crate::machine::Machine;
@@ -30,32 +34,50 @@ pub enum AssembleFault {
     NoMemory,
 }
 
+/// Why the table at this place is not accepted.
+fn fault_at(place: u32, fault: AcceptFault) -> AssembleFault
+    ensures { (table : Table) → IsRefusal table fault → RefusedAt table place result }
+{
+    match fault {
+        AcceptFault::Refused { verdict, .. } => AssembleFault::TableRefused {
+            table: place,
+            verdict,
+        },
+        AcceptFault::NoMemory { .. } => AssembleFault::NoMemory,
+    }
+}
+
+/// The table at this place of a setup's list, accepted.
+fn accepted_at(alloc: Global, table: &Table, place: u32) -> Result<Accepted, AssembleFault>
+    ensures same { IfOk result (λ accepted. accepted ≡ table.now) }
+    ensures accepted { IfOk result (λ accepted. InClass table.now) }
+    ensures refused { IfErr result (RefusedAt table.now place) }
+{
+    let Ok(copy) = table.copy() else {
+        return Err(AssembleFault::NoMemory);
+    };
+    match accept(alloc, copy) {
+        Ok(accepted) => Ok(accepted),
+        Err(fault) => Err(fault_at(place, fault)),
+    }
+}
+
 /// The tables of a setup, accepted.
 fn accepted(alloc: Global, tables: &[Table]) -> Result<Vec<Accepted>, AssembleFault>
     requires { length tables.now ≤ 16 }
     ensures same { IfOk result (λ accepted. accepted.items ≡ tables.now) }
-    ensures accepted { IfOk result (λ accepted. All InClass tables.now) }
+    ensures accepted { IfOk result (λ accepted. AllByRecursion InClass tables.now) }
     ensures refused { IfErr result (IsRefused tables.now) }
 {
     let mut all = Vec::new(alloc);
     for (i, table) in tables.iter().enumerate() {
-        let Ok(table) = table.copy() else {
+        let table = match accepted_at(alloc, table, i as u32) {
+            Ok(table) => table,
+            Err(fault) => return Err(fault),
+        };
+        let Ok(()) = all.push(table) else {
             return Err(AssembleFault::NoMemory);
         };
-        match accept(alloc, table) {
-            Ok(table) => {
-                let Ok(()) = all.push(table) else {
-                    return Err(AssembleFault::NoMemory);
-                };
-            }
-            Err(AcceptFault::Refused { verdict, .. }) => {
-                return Err(AssembleFault::TableRefused {
-                    table: i as u32,
-                    verdict,
-                });
-            }
-            Err(AcceptFault::NoMemory { .. }) => return Err(AssembleFault::NoMemory),
-        }
     }
     Ok(all)
 }
@@ -70,8 +92,12 @@ fn copied(alloc: Global, words: &[u32]) -> Result<Vec<u32>, NoMemory>
     }
 }
 
-/// The rack of a setup, without rows.
-fn rack(alloc: Global, boards: &[BoardSpec], tables: Vec<Accepted>) -> Result<Rack, NoMemory> {
+/// The rack of these boards, without rows.
+fn rack(alloc: Global, boards: &[BoardSpec], tables: Vec<Accepted>) -> Result<Rack, NoMemory>
+    requires few { length boards.now ≤ 16 }
+    requires fit { AllFit tables.items boards.now }
+    ensures { IfOk result (λ rack. rack ≡ empty_rack tables.items boards.now) }
+{
     match boards.to_vec(alloc) {
         Ok(boards) => Rack::new(alloc, boards, tables),
         Err(_) => Err(NoMemory),
@@ -91,12 +117,12 @@ fn numbers(alloc: Global, boards: &[BoardSpec]) -> Result<Vec<u16>, NoMemory>
     Ok(numbers)
 }
 
-/// So many places, at the beginning of each script.
-fn first_places(alloc: Global, boards: usize) -> Result<Vec<u32>, NoMemory>
-    ensures { IfOk result (λ places. places.items ≡ replicate boards 0) }
+/// The places of these boards, at the beginning of each script.
+fn first_places(alloc: Global, boards: &[BoardSpec]) -> Result<Vec<u32>, NoMemory>
+    ensures { IfOk result (λ places. places.items ≡ map (λ (spec : BoardSpec). 0) boards.now) }
 {
     let mut places = Vec::new(alloc);
-    for _ in 0..boards {
+    for _board in boards {
         let Ok(()) = places.push(0) else {
             return Err(NoMemory);
         };
@@ -123,14 +149,22 @@ fn parts(alloc: Global, setup: &Setup, tables: Vec<Accepted>) -> Result<Parts, N
     requires { tables.items ≡ setup.now.tables }
     ensures { IfOk result (λ parts. PartsShow setup.now (opening setup.now) parts) }
 {
-    let rack = rack(alloc, setup.boards(), tables)?;
-    let memory = MemoryBoard::new(copied(alloc, setup.memory())?);
-    let requests = Requests::new(numbers(alloc, setup.boards())?);
-    let places = first_places(alloc, setup.boards().len())?;
+    let Ok(rack) = rack(alloc, setup.boards(), tables) else {
+        return Err(NoMemory);
+    };
+    let Ok(words) = copied(alloc, setup.memory()) else {
+        return Err(NoMemory);
+    };
+    let Ok(numbers) = numbers(alloc, setup.boards()) else {
+        return Err(NoMemory);
+    };
+    let Ok(places) = first_places(alloc, setup.boards()) else {
+        return Err(NoMemory);
+    };
     Ok(Parts {
         rack,
-        memory,
-        requests,
+        memory: MemoryBoard::new(words),
+        requests: Requests::new(numbers),
         phase: Phase::Idle,
         places,
     })
@@ -142,7 +176,10 @@ pub fn assemble(alloc: Global, setup: Setup) -> Result<Machine, AssembleFault>
     ensures accepted { IfOk result (λ machine. AllInClass setup) }
     ensures refused { IfErr result (IsRefused setup.tables) }
 {
-    let tables = accepted(alloc, setup.tables())?;
+    let tables = match accepted(alloc, setup.tables()) {
+        Ok(tables) => tables,
+        Err(fault) => return Err(fault),
+    };
     let Ok(parts) = parts(alloc, &setup, tables) else {
         return Err(AssembleFault::NoMemory);
     };

@@ -1,12 +1,13 @@
 //! The completed accesses of each board, in lists whose room was made before.
 
-ghost use Rattle.std.specs.Prelude.{◌≡◌, ◌≤◌, ◌<◌, ◌++◌, ◌∷◌, [], length, slice_index_or, slice_set, IfOk};
+ghost use Rattle.std.specs.Prelude.{◌≡◌, ◌≤◌, ◌<◌, ◌++◌, ◌∷◌, [], length, slice_index_or, slice_set, IfOk, IsSome};
 ghost use Rattle.class_relation.specs.Rows.{rows};
 ghost use Rattle.backplane.specs.Rooms.{rooms};
-ghost use Rattle.backplane.specs.Histories.{empty_histories, history_of, room_of, added};
+ghost use Rattle.backplane.specs.Histories.{empty_histories, history_of, room_of, added, kept};
 
 use bus_signals::BoardNo;
 use flat_memory::Entry;
+use journal::Done;
 use no_memory::NoMemory;
 use std::alloc::Global;
 use std::marker::Model;
@@ -57,13 +58,33 @@ impl Histories {
     }
 
     /// Adds an entry to the list of a board.
-    pub fn push(&mut self, board: BoardNo, entry: Entry)
+    fn push(&mut self, board: BoardNo, entry: Entry)
         requires low { 1 ≤ board }
         requires high { board ≤ length self.old.entries }
         requires room { length (history_of self.old board) < room_of self.old board }
         ensures { self.new ≡ added self.old board entry }
     {
         push_at(&mut self.lists, board.0 as usize - 1, entry);
+    }
+
+    /// Keeps the access of this place that a board has completed, if it has completed one.
+    pub fn keep(&mut self, board: BoardNo, place: u32, done: &Option<Done>)
+        requires low { 1 ≤ board }
+        requires high { board ≤ length self.old.entries }
+        requires room { IsSome done.now → length (history_of self.old board) < room_of self.old board }
+        ensures { self.new ≡ kept self.old board place done.now }
+    {
+        if let Some(done) = done {
+            self.push(
+                board,
+                Entry {
+                    board,
+                    place,
+                    access: done.access,
+                    reply: done.reply,
+                },
+            );
+        }
     }
 
     /// The entries of a board, in order.

@@ -1,9 +1,9 @@
 //! What a board is to do in its turn.
 
-ghost use Rattle.std.specs.Prelude.{◌≡◌, List, true};
+ghost use Rattle.std.specs.Prelude.{◌≡◌, List, true, false};
 ghost use Rattle.moesi_state.specs.Outcomes.{is_invalid};
 ghost use Rattle.bus_model.specs.Setup.{Setup};
-ghost use Rattle.bus_model.specs.Configuration.{Configuration, is_granted, is_raised};
+ghost use Rattle.bus_model.specs.Configuration.{Configuration, is_connected, is_granted, is_raised};
 ghost use Rattle.bus_model.specs.Board.{is_clean};
 ghost use Rattle.bus_model.specs.Carrying.{reply_of};
 ghost use Rattle.bus_model.specs.Steps.{is_quiet};
@@ -11,7 +11,7 @@ ghost use Rattle.bus_model.specs.Events.{Event};
 ghost use Rattle.bus_model.specs.Soundness.{Sound};
 ghost use Rattle.arbiter.specs.Raised.{has_raised};
 ghost use Rattle.bus_model.specs.Turns.{local_turn, grant_turn, request_turn, bus_turn, room_turn, transaction_turn, access_turn, own_transaction, victim_for};
-ghost use Rattle.backplane.specs.Parts.{PartsShow, IsPartOf};
+ghost use Rattle.backplane.specs.Parts.{PartsShow, IsPartOf, phase_of};
 ghost use Rattle.backplane.specs.Plans.{planned};
 
 use crate::moved::Why;
@@ -22,12 +22,11 @@ use data_phase::copy_words;
 use journal::Done;
 use moesi_state::{Outcome, State};
 
-/// What a board is to do in its turn: nothing any more, nothing for now, or one of the events.
+/// What a board that is not connected is to do in its turn: nothing any more, nothing for now, or one of the events.
 #[derive(Clone, Copy, Debug, PartialEq, Eq)]
 pub enum Plan {
     Finish,
     Wait(Why),
-    Carry,
     Settle {
         before: State,
         after: State,
@@ -85,14 +84,12 @@ fn leaves_no_copy(outcome: Outcome) -> bool
 }
 
 impl Parts {
-    /// What a board is to do for its present access.
+    /// What a board that is not connected is to do for its present access.
     pub fn plan(&self, board: BoardNo, access: &Access) -> Plan
-        requires { IsPartOf self.now board }
+        requires board { IsPartOf self.now board }
+        requires free { is_connected (phase_of self.now.phase) board ≡ false }
         ensures { (setup : Setup) (events : List Event) (c : Configuration) → Sound setup events c → PartsShow setup c self.now → planned setup c board result ≡ access_turn setup c board access.now (own_transaction c.phase board) }
     {
-        if self.phase.is_connected(board) {
-            return Plan::Carry;
-        }
         let action = self.rack.decide(board, access.addr().line(), access.kind());
         match action.bus {
             None => self.plan_local(board, access, action.result.settle(false)),

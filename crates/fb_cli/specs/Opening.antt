@@ -1,5 +1,6 @@
 -- What the steps of a command come to: what was read, or the reply with which the command stops.
-use Rattle.std.specs.Prelude.{◌≡◌, ℕ, ◌≤◌, ◌<◌, List, length, Result, Ok, Err, Option, IfSome}
+use Rattle.std.specs.Prelude.{◌≡◌, ℕ, ◌+◌, ◌≤◌, ◌<◌, List, length, Result, Ok, Err, Option, Some, IfSome}
+use Rattle.std.specs.Io.KnownBytes.{Consumes}
 use Rattle.fb_text.specs.Unread.{unread}
 use Rattle.setup_text.specs.declared.fault.SetupFault.{SetupFault}
 use Rattle.setup_text.specs.declared.fault.SetupFault.TheVariants as faults
@@ -9,10 +10,16 @@ use Rattle.fb_cli.specs.declared.answers.Answer.{Answer}
 use Rattle.fb_cli.specs.declared.answers.Refusal.TheVariants.{NoRow, Unread, NoMemory}
 use Rattle.fb_cli.specs.declared.answers.Reply.{Reply}
 use Rattle.fb_cli.specs.declared.answers.Reply.TheVariants.{Answered, Refused}
+use Rattle.backplane.specs.Machine.{Machine, opened}
+use Rattle.trace_lines.specs.declared.fault.ReplayFault.{ReplayFault}
+use Rattle.replayer.specs.Replaying.{replayed}
+use Rattle.replayer.specs.Standing.{Replaying, StandsFor}
+use Rattle.fb_cli.specs.declared.replaying.TraceFileFault.{TraceFileFault}
+use Rattle.fb_cli.specs.declared.replaying.TraceFileFault.TheVariants as trace_faults
 use Rattle.fb_cli.specs.declared.role.Role.{Role}
 use Rattle.fb_cli.specs.declared.role.Role.TheVariants as roles
 use Rattle.fb_cli.specs.Output.{Output, limit_of, within, on_read, with_setup, fault_output, long_output}
-use Rattle.fb_cli.specs.Answers.{IsOutcome, CanPrint, IsSetupFile, answer_output}
+use Rattle.fb_cli.specs.Answers.{IsOutcome, CanPrint, Refuses, IsSetupFile, IsAcceptedFile, answer_output}
 
 -- A reply is an answer of this kind, or it tells of a file in such a role that was not read, or that memory ran out.
 abbrev pub Gives : (Answer → Type 0) → (Role → Type 0) → Reply → Type 0
@@ -20,6 +27,11 @@ Gives Wanted Failed (Answered answer) = Wanted answer × IsOutcome (answer_outpu
 Gives Wanted Failed (Refused NoRow) = ⊥
 Gives Wanted Failed (Refused (Unread role)) = Failed role
 Gives Wanted Failed (Refused NoMemory) = Unit {0}
+
+-- A reply with which a command stops: an answer that refuses, or a refusal.
+abbrev pub IsRefusal : Reply → Type 0
+IsRefusal (Answered answer) = Refuses answer
+IsRefusal (Refused refusal) = Unit {0}
 
 -- An answer, if there was memory for it.
 abbrev pub answered : {E : Type 0} → Result Answer E → Reply
@@ -64,3 +76,33 @@ RefusesTurns boards answer bytes =
 abbrev pub RunUnread : Option (List ℕ → List ℕ) → List ℕ → Type 0 → Role → Type 0
 RunUnread file setup shelf_rose roles.Setup = shelf_rose
 RunUnread file setup shelf_rose roles.Schedule = shelf_rose × OfFile file setup IsSetupFile
+
+-- The file of a replay that was not read: the setup, or else the trace where the setup is one whose tables are accepted.
+abbrev pub ReplayUnread : Option (List ℕ → List ℕ) → List ℕ → Type 0 → Role → Type 0
+ReplayUnread file setup shelf_rose roles.Setup = shelf_rose
+ReplayUnread file setup shelf_rose roles.Schedule = ⊥
+ReplayUnread file setup shelf_rose roles.Trace = shelf_rose × OfFile file setup IsAcceptedFile
+
+-- A trace of these bytes is within the limit, and replaying it on a machine comes to this.
+abbrev pub IsReplayed : Machine → ℕ → Result Machine ReplayFault → List ℕ → Type 0
+IsReplayed machine limit came bytes = (length bytes ≤ limit) × (replayed machine bytes ≡ came)
+
+-- Why a file was not replayed: the shelf failed, the file has more bytes than the limit, or it is not the trace of a complete run.
+abbrev pub TraceCause : Option (List ℕ → List ℕ) → List ℕ → ℕ → Machine → Type 0 → TraceFileFault → Type 0
+TraceCause file name limit machine shelf_rose trace_faults.Failed = shelf_rose
+TraceCause file name limit machine shelf_rose (trace_faults.TooLong taken) = (taken ≡ limit + 1) × OfFile file name (λ bytes. limit < length bytes)
+TraceCause file name limit machine shelf_rose (trace_faults.Trace fault) = OfFile file name (IsReplayed machine limit (Err fault))
+
+-- What a replay that ends here comes to, for each text that it stands for.
+abbrev pub FinishedAs : Replaying → Result Machine TraceFileFault → Type 0
+FinishedAs replay (Ok machine) = (text : List ℕ) → StandsFor replay text → replayed (opened replay.setup) text ≡ Ok machine
+FinishedAs replay (Err trace_faults.Failed) = ⊥
+FinishedAs replay (Err (trace_faults.TooLong taken)) = ⊥
+FinishedAs replay (Err (trace_faults.Trace fault)) = (text : List ℕ) → StandsFor replay text → replayed (opened replay.setup) text ≡ Err fault
+
+-- A replay has read so many bytes of a file, of which these are left.
+pub record HasRead (replay : Replaying) (taken : ℕ) (bytes : List ℕ) (rest : Option (List ℕ)) : Type 0 where
+  pub text : List ℕ
+  pub stands : StandsFor replay text
+  pub consumed : Consumes (Some bytes) rest text
+  pub counted : length text ≡ taken

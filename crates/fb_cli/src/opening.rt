@@ -4,7 +4,7 @@ ghost use Rattle.std.specs.Prelude.{◌≡◌, ◌≤◌, ◌<◌, ◌^◌, leng
 ghost use Rattle.std.specs.List.{AllByRecursion};
 ghost use Rattle.fb_edge.specs.Outside.{Rose};
 ghost use Rattle.fb_cli.specs.Output.{limit_of};
-ghost use Rattle.fb_cli.specs.Opening.{Gives, OfFile, IsUnread, IsTooLong, TellsFault, AreSetup, AreTurns, RefusesSetup, RefusesTurns};
+ghost use Rattle.fb_cli.specs.Opening.{Gives, IsRefusal, OfFile, IsUnread, IsTooLong, TellsFault, AreSetup, AreTurns, RefusesSetup, RefusesTurns};
 
 use crate::answers::{Refusal, Reply, fault_answer, long_answer};
 use crate::role::Role;
@@ -13,13 +13,14 @@ use setup_text::{Setup, SetupFault, read_schedule, read_setup};
 use std::alloc::Global;
 
 /// The most bytes of a file.
-fn limit_of(role: Role) -> u64
+pub fn limit_of(role: Role) -> u64
     ensures limit { result ≡ limit_of role }
     ensures small { result < 2 ^ 31 }
 {
     match role {
         Role::Setup => 8_388_608,
         Role::Schedule => 33_554_432,
+        Role::Trace => 268_435_456,
     }
 }
 
@@ -33,6 +34,7 @@ pub fn open<F: Shelf>(
     ensures bytes { IfOk result (λ bytes. OfFile (F.file shelf.old) name.now (λ known. known ≡ bytes.items)) }
     ensures within { IfOk result (λ bytes. length bytes.items ≤ limit_of role) }
     ensures stops { IfErr result (Gives (λ answer. OfFile (F.file shelf.old) name.now (IsTooLong role answer)) (IsUnread role (Rose (F.faults shelf.old) (F.faults shelf.new)))) }
+    ensures refused { IfErr result IsRefusal }
     ensures later { F.faults shelf.old ≤ F.faults shelf.new }
     ensures file { F.file shelf.new ≡ F.file shelf.old }
 {
@@ -46,7 +48,8 @@ pub fn open<F: Shelf>(
 
 /// The reply where a text was not read.
 pub fn refuse(alloc: Global, role: Role, fault: SetupFault) -> Reply
-    ensures { Gives (TellsFault role fault) (λ other. ⊥) result }
+    ensures told { Gives (TellsFault role fault) (λ other. ⊥) result }
+    ensures refused { IsRefusal result }
 {
     match fault {
         SetupFault::Bad { line, kind } => Reply::of(fault_answer(alloc, role, line, kind)),
@@ -58,6 +61,7 @@ pub fn refuse(alloc: Global, role: Role, fault: SetupFault) -> Reply
 pub fn open_setup<F: Shelf>(alloc: Global, name: &str, shelf: &mut F) -> Result<Setup, Reply>
     ensures setup { IfOk result (λ setup. OfFile (F.file shelf.old) name.now (AreSetup setup)) }
     ensures stops { IfErr result (Gives (λ answer. OfFile (F.file shelf.old) name.now (RefusesSetup answer)) (IsUnread Role.Setup (Rose (F.faults shelf.old) (F.faults shelf.new)))) }
+    ensures refused { IfErr result IsRefusal }
     ensures later { F.faults shelf.old ≤ F.faults shelf.new }
     ensures file { F.file shelf.new ≡ F.file shelf.old }
 {
@@ -80,6 +84,7 @@ pub fn open_schedule<F: Shelf>(
     ensures turns { IfOk result (λ turns. OfFile (F.file shelf.old) name.now (AreTurns boards turns.items)) }
     ensures places { IfOk result (λ turns. AllByRecursion (λ p. (1 ≤ p) × (p ≤ boards)) turns.items) }
     ensures stops { IfErr result (Gives (λ answer. OfFile (F.file shelf.old) name.now (RefusesTurns boards answer)) (IsUnread Role.Schedule (Rose (F.faults shelf.old) (F.faults shelf.new)))) }
+    ensures refused { IfErr result IsRefusal }
     ensures later { F.faults shelf.old ≤ F.faults shelf.new }
     ensures file { F.file shelf.new ≡ F.file shelf.old }
 {

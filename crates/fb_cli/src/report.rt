@@ -7,7 +7,7 @@ ghost use Rattle.table_check.specs.Accepted.{faults};
 ghost use Rattle.table_check.specs.declared.verdict.CellFault.TheVariants.{NotPermitted, Missing};
 ghost use Rattle.fb_cli.specs.Report.{is_accepted, cell_name, alternative_of, fault_bytes, verdict_words, verdict_line, report_on};
 ghost use Rattle.fb_cli.specs.Output.{report_output};
-ghost use Rattle.fb_cli.specs.Answers.{CanPrint, IsOutcome, answer_output};
+ghost use Rattle.fb_cli.specs.Answers.{CanPrint, IsOutcome, IsSaid, Refuses, answer_output};
 
 use crate::answers::Answer;
 use crate::words::{number, word};
@@ -142,6 +142,7 @@ fn write_report(alloc: Global, table: &Table, text: &mut Text) -> Result<bool, N
 pub fn report(alloc: Global, tables: &[Table]) -> Result<Answer, NoMemory>
     ensures output { IfOk result (λ answer. answer_output answer ≡ report_output tables.now) }
     ensures outcome { IfOk result (λ answer. IsOutcome (answer_output answer).status) }
+    ensures said { IfOk result IsSaid }
     ensures can { IfOk result CanPrint }
 {
     let mut text = Text::new(alloc);
@@ -159,6 +160,7 @@ pub fn refusal(alloc: Global, tables: &[Table]) -> Result<Option<Answer>, NoMemo
     ensures none { IfOk result (λ refused. IsNone refused → list_all is_accepted tables.now ≡ true) }
     ensures some { IfOk result (λ refused. IfSome refused (λ answer. (list_all is_accepted tables.now ≡ false) × (answer_output answer ≡ report_output tables.now))) }
     ensures outcome { IfOk result (λ refused. IfSome refused (λ answer. IsOutcome (answer_output answer).status)) }
+    ensures refuses { IfOk result (λ refused. IfSome refused Refuses) }
     ensures can { IfOk result (λ refused. IfSome refused CanPrint) }
 {
     match report(alloc, tables)? {

@@ -5,4 +5,5 @@
 pub enum Role {
     Setup,
     Schedule,
+    Trace,
 }

@@ -16,7 +16,7 @@ use setup_text::{Setup, write_setup};
 use std::alloc::Global;
 
 /// The written spelling of a setup.
-fn written(alloc: Global, setup: &Setup) -> Reply
+pub fn written(alloc: Global, setup: &Setup) -> Reply
     ensures { Gives (λ answer. answer_output answer ≡ shown_output setup.now) (λ role. ⊥) result }
 {
     let mut text = Text::new(alloc);

@@ -1,22 +1,23 @@
 -- The generated setup is within its limits, and its parts fit together.
-use Rattle.std.proofs.Common.{◌≡◌, ◌≢◌, ℕ, zero, suc, ◌+◌, ◌-◌, ◌*◌, ◌/◌, ◌%◌, ◌^◌, ◌<◌, ◌≤◌, Bool, true, false, IsTrue, List, [], ◌∷◌, ◌++◌, map, length, replicate, set, get_or, refl, sym, ap, subst, ◌∙◌, arith, add-one, All, AllPairs, sum_by}
+use Rattle.std.proofs.Common.{◌≡◌, ◌≢◌, ℕ, zero, suc, ◌+◌, ◌-◌, ◌*◌, ◌%◌, ◌^◌, ◌<◌, ◌≤◌, Bool, true, false, IsTrue, List, [], ◌∷◌, ◌++◌, map, length, replicate, get_or, refl, sym, ap, subst, ◌∙◌, arith, All, AllPairs, sum_by}
 use Rattle.std.specs.Prelude.{if◌then◌else◌, nat_lt, ◌==◌}
-use Rattle.std.proofs.lemmas.List.{length_push, length-map, length-replicate, length-append, get_or_append_left, get_or_push, get_or-map}
+use Rattle.std.proofs.lemmas.List.{length_push, length-map, get_or_append_left, get_or_push, get_or-map}
 use Rattle.std.proofs.lemmas.List.Elements.{All-replicate, All-set, All-push, All-get_or, All-map, All-from_recursion, All-nil}
 use Rattle.std.proofs.lemmas.List.Kept.{AllPairs-cons}
 use Rattle.std.proofs.lemmas.List.Sums.{sum_by-set}
-use Rattle.std.proofs.lemmas.List.Folds.{sum_by-replicate}
 use Rattle.std.proofs.lemmas.Nat.{mod_below}
 use Rattle.bus_signals.specs.declared.Access.{Access}
 use Rattle.bus_signals.specs.Accesses.{address_of}
 use Rattle.moesi_state.specs.declared.State.{State}
 use Rattle.moesi_state.specs.declared.State.TheVariants.{M, O, E, S, I}
 use Rattle.class_relation.specs.Tables.{Table, empty_table}
-use Rattle.table_check.specs.Reached.{leads_to, IsPath, Reached}
+use Rattle.table_check.specs.Reached.{leads_to, IsPath}
+use Rattle.table_check.specs.Accepted.{InClass}
+use Rattle.table_check.proofs.KnownTables.{copy_back_accepted, copy_back_update_accepted, write_through_accepted, uncached_accepted, whole_class_accepted}
 use Rattle.table_check.specs.KnownTables.{uncached, copy_back, copy_back_update, write_through, whole_class}
-use Rattle.bus_model.specs.Setup.{Setup, BoardSpec, Shape, Plain, Cached, ShapeFits, BoardFits, WellFormed, access_count}
+use Rattle.bus_model.specs.Setup.{Setup, BoardSpec, ShapeFits, BoardFits, WellFormed, AllInClass}
 use Rattle.bus_model.specs.Turns.{seeded_word}
-use Rattle.generator.specs.Generated.{access_of_kind, access_of_draws, generated_access, with_access, dealt, shape_of_table, generated_tables, generated_board, numbers_to, generated}
+use Rattle.generator.specs.Generated.{access_of_kind, generated_access, dealt, shape_of_table, generated_tables, generated_board, numbers_to, generated}
 use Rattle.generator.proofs.Making.{length-dealt, length-numbers}
 
 -- ---- the uncached table reaches I alone
@@ -117,7 +118,7 @@ addresses_fit n (suc j) =
     (All-push IsLow script (generated_access n j) (All-get_or (All IsLow) (dealt n j) (j % 16) [] (omega (arith, below, long)) (addresses_fit n j)) low)
     (addresses_fit n j)
 
-count_dealt : (n accesses : ℕ) → sum_by (λ (script : List Access). length script) (dealt n accesses) ≡ accesses
+pub count_dealt : (n accesses : ℕ) → sum_by (λ (script : List Access). length script) (dealt n accesses) ≡ accesses
 unfolding dealt
 count_dealt n zero = refl
 count_dealt n (suc j) =
@@ -153,3 +154,7 @@ pub parts_fit : (n : ℕ) (memory : List ℕ) (tables : List Table) (boards : Li
 parts_fit n memory tables boards scripts m t b s =
     let same : generated n ≡ record { memory = memory; tables = tables; boards = boards; scripts = scripts } = λ i. record { memory = sym m i; tables = sym t i; boards = sym b i; scripts = sym s i } in
     subst (λ (setup : Setup). WellFormed setup) same (generated_fits n)
+
+-- The tables are in the class.
+pub generated_in_class : (n : ℕ) → AllInClass (generated n)
+generated_in_class n = All-from_recursion InClass generated_tables (copy_back_accepted, (copy_back_update_accepted, (write_through_accepted, (uncached_accepted, (whole_class_accepted, tt)))))

@@ -1,15 +1,19 @@
 -- The tables that the rows make: each is computed.
-use Rattle.std.proofs.Common.{◌≡◌, [], refl, subst}
+use Rattle.std.proofs.Common.{◌≡◌, ℕ, List, [], refl, subst}
 use Rattle.std.specs.Prelude.{codes, Result, IfOk}
 use Rattle.class_relation.specs.Tables.{Table, empty_table}
 use Rattle.table_check.specs.KnownTables.{uncached, copy_back, copy_back_update, write_through, whole_class}
 use Rattle.generator.specs.Tables.{with_local_rows, with_answer_rows}
 use Rattle.generator.specs.declared.tables.TheConstants.{COPY_BACK_LOCALS, INVALIDATING_WRITES, UPDATING_WRITES, COPY_BACK_ANSWERS, WRITE_THROUGH_LOCALS, WRITE_THROUGH_ANSWERS, UNCACHED_LOCALS, CLASS_LOCALS, CLASS_ANSWERS}
 
-pub copy_back_made : with_local_rows (with_answer_rows (with_local_rows (empty_table (codes "cb")) COPY_BACK_LOCALS) COPY_BACK_ANSWERS) INVALIDATING_WRITES ≡ copy_back
+-- A copy-back table without writes to lines that others may hold.
+abbrev pub copy_back_start : List ℕ → Table
+copy_back_start name = with_answer_rows (with_local_rows (empty_table name) COPY_BACK_LOCALS) COPY_BACK_ANSWERS
+
+pub copy_back_made : with_local_rows (copy_back_start (codes "cb")) INVALIDATING_WRITES ≡ copy_back
 copy_back_made = refl
 
-pub copy_back_update_made : with_local_rows (with_answer_rows (with_local_rows (empty_table (codes "up")) COPY_BACK_LOCALS) COPY_BACK_ANSWERS) UPDATING_WRITES ≡ copy_back_update
+pub copy_back_update_made : with_local_rows (copy_back_start (codes "up")) UPDATING_WRITES ≡ copy_back_update
 copy_back_update_made = refl
 
 pub write_through_made : with_answer_rows (with_local_rows (empty_table (codes "wt")) WRITE_THROUGH_LOCALS) WRITE_THROUGH_ANSWERS ≡ write_through

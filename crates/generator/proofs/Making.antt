@@ -1,5 +1,5 @@
 -- The loops that make a setup.
-use Rattle.std.proofs.Common.{◌≡◌, ℕ, zero, suc, ◌+◌, ◌*◌, ◌<◌, ◌%◌, List, [], ◌∷◌, ◌++◌, map, length, replicate, set, get_or, refl, ap, sym, ◌∙◌, add-one, arith}
+use Rattle.std.proofs.Common.{◌≡◌, ℕ, zero, suc, ◌+◌, ◌<◌, ◌%◌, List, [], ◌∷◌, ◌++◌, map, length, replicate, set, get_or, refl, ap, sym, ◌∙◌, add-one}
 use Rattle.bus_signals.specs.declared.Access.{Access}
 use Rattle.std.proofs.lemmas.List.{replicate-append-replicate, length-set, length_push, map_push, map-set, get_or-map}
 use Rattle.std.specs.Prelude.{Vec}

@@ -4,6 +4,7 @@
 //! `specs/Schedule.antt` the schedule.
 #![tactic(auto)]
 
+mod laws;
 mod make;
 mod rows;
 mod tables;
@@ -12,6 +13,7 @@ mod tests;
 mod turns;
 mod words;
 
+pub use laws::generated_setups_are_accepted;
 pub use make::make_setup;
 pub use no_memory::NoMemory;
 pub use turns::SeededTurns;

@@ -3,18 +3,56 @@
 ghost use Rattle.std.specs.Prelude.{◌≡◌, true, IfOk};
 ghost use Rattle.class_relation.specs.Names.{is_name};
 ghost use Rattle.class_relation.specs.Tables.{empty_table};
-ghost use Rattle.generator.specs.Tables.{with_local_rows, with_answer_rows};
+ghost use Rattle.generator.specs.Tables.{with_local_rows, with_answer_rows, local_rows_fit, answer_rows_fit};
 ghost use Rattle.generator.specs.Generated.{generated_tables};
 ghost use Rattle.table_check.specs.KnownTables.{uncached, copy_back, copy_back_update, write_through, whole_class};
 
 use crate::rows::{AnswerRow, LocalRow, add_answers, add_locals};
 use bus_signals::BusEvent::{Bwr, Flu, Inv, Pas, Rd, Rfo, Ubw, Urd, Uwr};
 use bus_signals::LocalEvent::{Flush, Pass, Read, Write};
+use bus_signals::Response;
 use class_relation::{Name, Table};
 use moesi_state::Outcome::{Fixed, OnHit};
 use moesi_state::State::{E, I, M, O, S};
 use no_memory::NoMemory;
 use std::alloc::Global;
+
+/// No signal is asserted.
+const QUIET: Response = Response {
+    ch: false,
+    di: false,
+    sl: false,
+};
+
+const CH: Response = Response {
+    ch: true,
+    di: false,
+    sl: false,
+};
+
+const DI: Response = Response {
+    ch: false,
+    di: true,
+    sl: false,
+};
+
+const CH_DI: Response = Response {
+    ch: true,
+    di: true,
+    sl: false,
+};
+
+const SL: Response = Response {
+    ch: false,
+    di: false,
+    sl: true,
+};
+
+const CH_SL: Response = Response {
+    ch: true,
+    di: false,
+    sl: true,
+};
 
 const UNCACHED_LOCALS: [LocalRow; 4] = [
     LocalRow(I, Read, Fixed(I), Some(Urd)),
@@ -57,32 +95,32 @@ const UPDATING_WRITES: [LocalRow; 2] = [
 ];
 
 const COPY_BACK_ANSWERS: [AnswerRow; 26] = [
-    AnswerRow(M, Rd, O, true, true, false),
-    AnswerRow(M, Rfo, I, false, true, false),
-    AnswerRow(M, Urd, M, false, true, false),
-    AnswerRow(M, Uwr, M, false, true, false),
-    AnswerRow(M, Ubw, M, false, false, true),
-    AnswerRow(O, Rd, O, true, true, false),
-    AnswerRow(O, Rfo, I, false, true, false),
-    AnswerRow(O, Inv, I, false, false, false),
-    AnswerRow(O, Urd, O, false, true, false),
-    AnswerRow(O, Bwr, S, true, false, true),
-    AnswerRow(O, Uwr, O, false, true, false),
-    AnswerRow(O, Ubw, O, false, false, true),
-    AnswerRow(E, Rd, S, true, false, false),
-    AnswerRow(E, Rfo, I, false, false, false),
-    AnswerRow(E, Urd, E, false, false, false),
-    AnswerRow(E, Uwr, I, false, false, false),
-    AnswerRow(E, Ubw, E, false, false, true),
-    AnswerRow(S, Rd, S, true, false, false),
-    AnswerRow(S, Rfo, I, false, false, false),
-    AnswerRow(S, Inv, I, false, false, false),
-    AnswerRow(S, Urd, S, false, false, false),
-    AnswerRow(S, Bwr, S, true, false, true),
-    AnswerRow(S, Uwr, I, false, false, false),
-    AnswerRow(S, Ubw, S, false, false, true),
-    AnswerRow(S, Pas, S, true, false, false),
-    AnswerRow(S, Flu, S, false, false, false),
+    AnswerRow(M, Rd, O, CH_DI),
+    AnswerRow(M, Rfo, I, DI),
+    AnswerRow(M, Urd, M, DI),
+    AnswerRow(M, Uwr, M, DI),
+    AnswerRow(M, Ubw, M, SL),
+    AnswerRow(O, Rd, O, CH_DI),
+    AnswerRow(O, Rfo, I, DI),
+    AnswerRow(O, Inv, I, QUIET),
+    AnswerRow(O, Urd, O, DI),
+    AnswerRow(O, Bwr, S, CH_SL),
+    AnswerRow(O, Uwr, O, DI),
+    AnswerRow(O, Ubw, O, SL),
+    AnswerRow(E, Rd, S, CH),
+    AnswerRow(E, Rfo, I, QUIET),
+    AnswerRow(E, Urd, E, QUIET),
+    AnswerRow(E, Uwr, I, QUIET),
+    AnswerRow(E, Ubw, E, SL),
+    AnswerRow(S, Rd, S, CH),
+    AnswerRow(S, Rfo, I, QUIET),
+    AnswerRow(S, Inv, I, QUIET),
+    AnswerRow(S, Urd, S, QUIET),
+    AnswerRow(S, Bwr, S, CH_SL),
+    AnswerRow(S, Uwr, I, QUIET),
+    AnswerRow(S, Ubw, S, SL),
+    AnswerRow(S, Pas, S, CH),
+    AnswerRow(S, Flu, S, QUIET),
 ];
 
 const WRITE_THROUGH_LOCALS: [LocalRow; 8] = [
@@ -97,15 +135,15 @@ const WRITE_THROUGH_LOCALS: [LocalRow; 8] = [
 ];
 
 const WRITE_THROUGH_ANSWERS: [AnswerRow; 9] = [
-    AnswerRow(S, Rd, S, true, false, false),
-    AnswerRow(S, Rfo, I, false, false, false),
-    AnswerRow(S, Inv, I, false, false, false),
-    AnswerRow(S, Urd, S, false, false, false),
-    AnswerRow(S, Bwr, S, true, false, true),
-    AnswerRow(S, Uwr, I, false, false, false),
-    AnswerRow(S, Ubw, S, false, false, true),
-    AnswerRow(S, Pas, S, true, false, false),
-    AnswerRow(S, Flu, S, false, false, false),
+    AnswerRow(S, Rd, S, CH),
+    AnswerRow(S, Rfo, I, QUIET),
+    AnswerRow(S, Inv, I, QUIET),
+    AnswerRow(S, Urd, S, QUIET),
+    AnswerRow(S, Bwr, S, CH_SL),
+    AnswerRow(S, Uwr, I, QUIET),
+    AnswerRow(S, Ubw, S, SL),
+    AnswerRow(S, Pas, S, CH),
+    AnswerRow(S, Flu, S, QUIET),
 ];
 
 /// All that the class permits for local events.
@@ -158,71 +196,71 @@ const CLASS_LOCALS: [LocalRow; 44] = [
 
 /// All that the class permits in answer to bus events, of a board that holds the line.
 const CLASS_ANSWERS: [AnswerRow; 65] = [
-    AnswerRow(M, Rd, O, true, true, false),
-    AnswerRow(M, Rfo, I, false, true, false),
-    AnswerRow(M, Rfo, I, true, true, false),
-    AnswerRow(M, Urd, M, false, true, false),
-    AnswerRow(M, Urd, M, true, true, false),
-    AnswerRow(M, Urd, O, false, true, false),
-    AnswerRow(M, Urd, O, true, true, false),
-    AnswerRow(M, Uwr, M, false, true, false),
-    AnswerRow(M, Uwr, M, true, true, false),
-    AnswerRow(M, Uwr, O, false, true, false),
-    AnswerRow(M, Uwr, O, true, true, false),
-    AnswerRow(M, Ubw, M, false, false, true),
-    AnswerRow(M, Ubw, M, true, false, true),
-    AnswerRow(M, Ubw, O, false, false, true),
-    AnswerRow(M, Ubw, O, true, false, true),
-    AnswerRow(O, Rd, O, true, true, false),
-    AnswerRow(O, Rfo, I, false, true, false),
-    AnswerRow(O, Rfo, I, true, true, false),
-    AnswerRow(O, Inv, I, false, false, false),
-    AnswerRow(O, Inv, I, true, false, false),
-    AnswerRow(O, Urd, O, false, true, false),
-    AnswerRow(O, Urd, O, true, true, false),
-    AnswerRow(O, Bwr, S, true, false, true),
-    AnswerRow(O, Bwr, I, false, false, false),
-    AnswerRow(O, Uwr, O, false, true, false),
-    AnswerRow(O, Uwr, O, true, true, false),
-    AnswerRow(O, Ubw, O, false, false, true),
-    AnswerRow(O, Ubw, O, true, false, true),
-    AnswerRow(E, Rd, S, true, false, false),
-    AnswerRow(E, Rd, I, false, false, false),
-    AnswerRow(E, Rfo, I, false, false, false),
-    AnswerRow(E, Rfo, I, true, false, false),
-    AnswerRow(E, Urd, E, false, false, false),
-    AnswerRow(E, Urd, E, true, false, false),
-    AnswerRow(E, Urd, S, false, false, false),
-    AnswerRow(E, Urd, S, true, false, false),
-    AnswerRow(E, Urd, I, false, false, false),
-    AnswerRow(E, Uwr, I, false, false, false),
-    AnswerRow(E, Uwr, I, true, false, false),
-    AnswerRow(E, Ubw, E, false, false, true),
-    AnswerRow(E, Ubw, E, true, false, true),
-    AnswerRow(E, Ubw, S, false, false, true),
-    AnswerRow(E, Ubw, S, true, false, true),
-    AnswerRow(E, Ubw, I, false, false, false),
-    AnswerRow(S, Rd, S, true, false, false),
-    AnswerRow(S, Rd, I, false, false, false),
-    AnswerRow(S, Rfo, I, false, false, false),
-    AnswerRow(S, Rfo, I, true, false, false),
-    AnswerRow(S, Inv, I, false, false, false),
-    AnswerRow(S, Inv, I, true, false, false),
-    AnswerRow(S, Urd, S, false, false, false),
-    AnswerRow(S, Urd, S, true, false, false),
-    AnswerRow(S, Urd, I, false, false, false),
-    AnswerRow(S, Bwr, S, true, false, true),
-    AnswerRow(S, Bwr, I, false, false, false),
-    AnswerRow(S, Uwr, I, false, false, false),
-    AnswerRow(S, Uwr, I, true, false, false),
-    AnswerRow(S, Ubw, S, false, false, true),
-    AnswerRow(S, Ubw, S, true, false, true),
-    AnswerRow(S, Ubw, I, false, false, false),
-    AnswerRow(S, Pas, S, true, false, false),
-    AnswerRow(S, Pas, I, false, false, false),
-    AnswerRow(S, Flu, S, false, false, false),
-    AnswerRow(S, Flu, S, true, false, false),
-    AnswerRow(S, Flu, I, false, false, false),
+    AnswerRow(M, Rd, O, CH_DI),
+    AnswerRow(M, Rfo, I, DI),
+    AnswerRow(M, Rfo, I, CH_DI),
+    AnswerRow(M, Urd, M, DI),
+    AnswerRow(M, Urd, M, CH_DI),
+    AnswerRow(M, Urd, O, DI),
+    AnswerRow(M, Urd, O, CH_DI),
+    AnswerRow(M, Uwr, M, DI),
+    AnswerRow(M, Uwr, M, CH_DI),
+    AnswerRow(M, Uwr, O, DI),
+    AnswerRow(M, Uwr, O, CH_DI),
+    AnswerRow(M, Ubw, M, SL),
+    AnswerRow(M, Ubw, M, CH_SL),
+    AnswerRow(M, Ubw, O, SL),
+    AnswerRow(M, Ubw, O, CH_SL),
+    AnswerRow(O, Rd, O, CH_DI),
+    AnswerRow(O, Rfo, I, DI),
+    AnswerRow(O, Rfo, I, CH_DI),
+    AnswerRow(O, Inv, I, QUIET),
+    AnswerRow(O, Inv, I, CH),
+    AnswerRow(O, Urd, O, DI),
+    AnswerRow(O, Urd, O, CH_DI),
+    AnswerRow(O, Bwr, S, CH_SL),
+    AnswerRow(O, Bwr, I, QUIET),
+    AnswerRow(O, Uwr, O, DI),
+    AnswerRow(O, Uwr, O, CH_DI),
+    AnswerRow(O, Ubw, O, SL),
+    AnswerRow(O, Ubw, O, CH_SL),
+    AnswerRow(E, Rd, S, CH),
+    AnswerRow(E, Rd, I, QUIET),
+    AnswerRow(E, Rfo, I, QUIET),
+    AnswerRow(E, Rfo, I, CH),
+    AnswerRow(E, Urd, E, QUIET),
+    AnswerRow(E, Urd, E, CH),
+    AnswerRow(E, Urd, S, QUIET),
+    AnswerRow(E, Urd, S, CH),
+    AnswerRow(E, Urd, I, QUIET),
+    AnswerRow(E, Uwr, I, QUIET),
+    AnswerRow(E, Uwr, I, CH),
+    AnswerRow(E, Ubw, E, SL),
+    AnswerRow(E, Ubw, E, CH_SL),
+    AnswerRow(E, Ubw, S, SL),
+    AnswerRow(E, Ubw, S, CH_SL),
+    AnswerRow(E, Ubw, I, QUIET),
+    AnswerRow(S, Rd, S, CH),
+    AnswerRow(S, Rd, I, QUIET),
+    AnswerRow(S, Rfo, I, QUIET),
+    AnswerRow(S, Rfo, I, CH),
+    AnswerRow(S, Inv, I, QUIET),
+    AnswerRow(S, Inv, I, CH),
+    AnswerRow(S, Urd, S, QUIET),
+    AnswerRow(S, Urd, S, CH),
+    AnswerRow(S, Urd, I, QUIET),
+    AnswerRow(S, Bwr, S, CH_SL),
+    AnswerRow(S, Bwr, I, QUIET),
+    AnswerRow(S, Uwr, I, QUIET),
+    AnswerRow(S, Uwr, I, CH),
+    AnswerRow(S, Ubw, S, SL),
+    AnswerRow(S, Ubw, S, CH_SL),
+    AnswerRow(S, Ubw, I, QUIET),
+    AnswerRow(S, Pas, S, CH),
+    AnswerRow(S, Pas, I, QUIET),
+    AnswerRow(S, Flu, S, QUIET),
+    AnswerRow(S, Flu, S, CH),
+    AnswerRow(S, Flu, I, QUIET),
 ];
 
 /// A table without alternatives.
@@ -240,7 +278,9 @@ fn table_of(
     locals: &[LocalRow],
     answers: &[AnswerRow],
 ) -> Result<Table, NoMemory>
-    requires { is_name name.now ≡ true }
+    requires name { is_name name.now ≡ true }
+    requires locals { local_rows_fit (empty_table name.now) locals.now ≡ true }
+    requires answers { answer_rows_fit (with_local_rows (empty_table name.now) locals.now) answers.now ≡ true }
     ensures { IfOk result (λ table. table ≡ with_answer_rows (with_local_rows (empty_table name.now) locals.now) answers.now) }
 {
     let mut table = named(alloc, name);
@@ -251,7 +291,8 @@ fn table_of(
 
 /// The table of a copy-back board with these writes to lines that others may hold.
 fn copy_back_of(alloc: Global, name: &str, writes: &[LocalRow]) -> Result<Table, NoMemory>
-    requires { is_name name.now ≡ true }
+    requires name { is_name name.now ≡ true }
+    requires writes { local_rows_fit (with_answer_rows (with_local_rows (empty_table name.now) COPY_BACK_LOCALS) COPY_BACK_ANSWERS) writes.now ≡ true }
     ensures { IfOk result (λ table. table ≡ with_local_rows (with_answer_rows (with_local_rows (empty_table name.now) COPY_BACK_LOCALS) COPY_BACK_ANSWERS) writes.now) }
 {
     let mut table = table_of(alloc, name, &COPY_BACK_LOCALS, &COPY_BACK_ANSWERS)?;

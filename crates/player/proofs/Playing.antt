@@ -9,9 +9,9 @@ use Rattle.bus_model.specs.Configuration.{opening}
 use Rattle.bus_model.specs.Runs.{Complete, after_all}
 use Rattle.bus_model.specs.Turns.{events_of_turns, played}
 use Rattle.coherence.proofs.Rounds.{all_done_stays}
-use Rattle.backplane.specs.Machine.{Machine, configuration}
-use Rattle.backplane.specs.Moves.{after_turns}
-use Rattle.backplane.proofs.Turning.{more_turns}
+use Rattle.backplane.specs.Machine.{IsBoard, Machine, configuration}
+use Rattle.backplane.specs.Moves.{after_turns, moved, turn_of}
+use Rattle.backplane.proofs.Turning.{more_turns, one_turn}
 use Rattle.player.specs.Rounds.{AfterRounds}
 
 repeated-more : {X : Type 0} (n m : ℕ) (xs : List X) → repeated (n + m) xs ≡ repeated n xs ++ repeated m xs
@@ -80,3 +80,12 @@ goes_on now next did round count some =
     let sum : length next.journal ≡ length now.journal + length (events_of_turns now.setup (configuration now) (board_places now.setup)) =
         ap (λ (m : Machine). length m.journal) round ∙ length-append now.journal (events_of_turns now.setup (configuration now) (board_places now.setup)) in
     omega (arith, sum, count, some)
+
+-- A board of one machine is a board of another of the same setup.
+pub same_board : (first now : Machine) (board : ℕ) → now.setup ≡ first.setup → IsBoard first board → IsBoard now board
+same_board first now board same is = record { low = is.low; high = subst (λ (s : Setup). board ≤ length s.boards) (sym same) is.high }
+
+-- A turn, and then the others.
+pub turn_first : (now next : Machine) (board : ℕ) (rest : List ℕ) → next ≡ moved now (turn_of now board) → after_turns next rest ≡ after_turns now (board ∷ rest)
+turn_first now next board rest turned =
+    ap (λ (m : Machine). after_turns m rest) (turned ∙ sym (one_turn now board)) ∙ sym (more_turns now (board ∷ []) rest)

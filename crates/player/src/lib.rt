@@ -7,11 +7,13 @@ ghost use Rattle.bus_model.specs.Places.{repeated};
 ghost use Rattle.bus_model.specs.Setup.{access_count, board_places};
 ghost use Rattle.bus_model.specs.Runs.{Complete};
 ghost use Rattle.bus_model.specs.Turns.{played};
+ghost use Rattle.generator.specs.Schedule.{seeded_turns};
 ghost use Rattle.backplane.specs.Machine.{configuration, IsBoard};
 ghost use Rattle.backplane.specs.Moves.{after_turns};
 
 use backplane::Machine;
 use bus_signals::BoardNo;
+use generator::SeededTurns;
 
 /// Each board of a schedule has its turn.
 fn take_turns(machine: &mut Machine, turns: &[u8])
@@ -20,6 +22,16 @@ fn take_turns(machine: &mut Machine, turns: &[u8])
 {
     for turn in turns {
         machine.advance(BoardNo(*turn));
+    }
+}
+
+/// Each board of a seeded schedule has its turn.
+fn take_seeded(machine: &mut Machine, mut turns: SeededTurns)
+    requires boards { AllByRecursion (IsBoard machine.old) turns }
+    ensures { machine.new ≡ after_turns machine.old turns }
+{
+    while let Some(turn) = turns.next_turn() {
+        machine.advance(BoardNo(turn));
     }
 }
 
@@ -45,5 +57,17 @@ pub fn play(machine: &mut Machine, schedule: &[u8])
     ensures complete { Complete machine.new.setup (configuration machine.new) }
 {
     take_turns(machine, schedule);
+    finish(machine);
+}
+
+/// Plays the seeded schedule of a number from the opening, as `play` does. The number of accesses over all scripts is told.
+pub fn play_seeded(machine: &mut Machine, seed: u64, accesses: u32)
+    requires opening { machine.old.journal ≡ [] }
+    requires accesses { accesses ≡ access_count machine.old.setup }
+    ensures played { machine.new ≡ record { setup = machine.old.setup; journal = played machine.old.setup (seeded_turns seed (length machine.old.setup.boards) accesses) } }
+    ensures complete { Complete machine.new.setup (configuration machine.new) }
+{
+    let turns = SeededTurns::new(seed, machine.boards(), accesses);
+    take_seeded(machine, turns);
     finish(machine);
 }

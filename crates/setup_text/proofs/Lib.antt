@@ -4,6 +4,20 @@ pub mod TableLines
 pub mod LineSteps
 pub mod Texts
 pub mod Schedules
+pub mod LineWords
+pub mod Growing
+pub mod Parts
+pub mod SetupLines
+pub mod SetupAgain
+pub mod Setups
+pub mod Books
+pub mod Follows
+pub mod OneText
+pub mod OpenTables
+pub mod HeadLines
+pub mod BookFaults
+pub mod LineFaults
+pub mod BoardFaults
 pub mod Writes
 pub mod WrittenWords
 pub mod WrittenTables
@@ -13,4 +27,3 @@ pub mod WrittenSetup
 pub mod LinesAgain
 pub mod RowsAgain
 pub mod ReadAgain
-pub mod BookAgain

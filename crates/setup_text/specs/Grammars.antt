@@ -1,5 +1,5 @@
 -- The grammars of texts of tables, of setups and of schedules: where their side conditions are judged, and what faults are called.
-use Rattle.std.specs.Prelude.{◌≡◌, ◌≢◌, ℕ, ◌+◌, ◌*◌, ◌<◌, ◌≤◌, ◌⊎◌, Bool, true, false, ◌&&◌, List, [], ◌∷◌, ◌++◌, length, map, Option, Some, None, Contains, codes, decimal, if◌then◌else◌}
+use Rattle.std.specs.Prelude.{◌≡◌, ◌≢◌, ℕ, ◌+◌, ◌*◌, ◌<◌, ◌≤◌, ◌^◌, ◌⊎◌, Bool, true, false, ◌&&◌, List, [], ◌∷◌, ◌++◌, length, map, Option, Some, None, Contains, codes, decimal, if◌then◌else◌}
 use Rattle.std.specs.Str.{bytes_eq}
 use Rattle.fb_text.specs.Places.{Words, Item, word, line_end, text_end, lines_items, BreaksAtWord, Grammar}
 use Rattle.moesi_state.specs.declared.State.{State}
@@ -137,7 +137,7 @@ JudgedFirst setup w kind =
 
 -- An address that memory lacks.
 abbrev pub JudgedAddress : Setup → List ℕ → SetupKind → Type 0
-JudgedAddress setup w kind = (addr : ℕ) × (w ≡ decimal addr) × (length setup.memory ≤ addr) × (kind ≡ Address)
+JudgedAddress setup w kind = (addr : ℕ) × (addr < 2 ^ 32) × (w ≡ decimal addr) × (length setup.memory ≤ addr) × (kind ≡ Address)
 
 -- A place that is not the next one.
 abbrev pub JudgedPlace : Setup → List ℕ → SetupKind → Type 0
@@ -145,7 +145,7 @@ JudgedPlace setup w kind = (w ≢ decimal (length setup.boards + 1)) × (kind �
 
 -- A number that an earlier board has.
 abbrev pub JudgedNumber : Setup → List ℕ → SetupKind → Type 0
-JudgedNumber setup w kind = (n : ℕ) × (w ≡ decimal n) × Contains (map (λ (b : BoardSpec). b.number) setup.boards) n × (kind ≡ TwiceNumber)
+JudgedNumber setup w kind = (n : ℕ) × (n ≤ 255) × (w ≡ decimal n) × Contains (map (λ (b : BoardSpec). b.number) setup.boards) n × (kind ≡ TwiceNumber)
 
 -- A name that no table has.
 abbrev pub JudgedTable : Setup → List ℕ → SetupKind → Type 0
@@ -163,7 +163,7 @@ JudgedShape setup words w kind =
 
 -- More frames than a board can have.
 abbrev pub JudgedWays : Words → List ℕ → SetupKind → Type 0
-JudgedWays words w kind = (m : ℕ) × (n : ℕ) × (last_word words ≡ decimal m) × (w ≡ decimal n) × (256 < m * n) × (kind ≡ Limit Frames (m * n))
+JudgedWays words w kind = (m : ℕ) × (n : ℕ) × (m ≤ 256) × (n ≤ 256) × (last_word words ≡ decimal m) × (w ≡ decimal n) × (256 < m * n) × (kind ≡ Limit Frames (m * n))
 
 abbrev pub JudgedAs : Slot → Setup → Words → List ℕ → SetupKind → Type 0
 JudgedAs first setup words w kind = JudgedFirst setup w kind
@@ -178,7 +178,7 @@ JudgedAs s setup words w kind = ⊥
 
 -- The number of lines of memory.
 abbrev pub JudgedLines : List ℕ → SetupKind → Type 0
-JudgedLines w kind = (n : ℕ) × (w ≡ decimal n) × ((n ≡ 0) ⊎ (4096 < n)) × (kind ≡ Limit Lines n)
+JudgedLines w kind = (n : ℕ) × (n < 2 ^ 32) × (w ≡ decimal n) × ((n ≡ 0) ⊎ (4096 < n)) × (kind ≡ Limit Lines n)
 
 -- The kind of a table's fault in a setup or a text of tables.
 abbrev pub kind_of : TableKind → SetupKind

@@ -32,7 +32,7 @@ BeginsCell front = (c : CellLine) × (more : Words) × HasAlternative c × (cell
 
 -- why a cell line is refused, behind these lines
 abbrev pub WhyCell : List Words → Words → Option (List ℕ) → TableKind → Type 0
-WhyCell done front None kind = ((kind ≡ NoCell) × (p : Words) × (front ≡ p ++ codes "=" ∷ [])) ⊎ ((kind ≡ UnknownWord) × ((p : Words) → front ≡ p ++ codes "=" ∷ [] → ⊥))
+WhyCell done front None kind = ((kind ≡ NoCell) × (s : List ℕ) × (a : List ℕ) × (front ≡ s ∷ a ∷ codes "=" ∷ [])) ⊎ ((kind ≡ UnknownWord) × ((p : Words) → front ≡ p ++ codes "=" ∷ [] → ⊥))
 WhyCell done front (Some w) kind =
     (kind ≡ UnknownWord) ⊎ (((kind ≡ TwiceCell) × ((s : List ℕ) × (front ≡ s ∷ []) × HasLine done s w) × BeginsCell (front ++ w ∷ [])) ⊎ ((kind ≡ Alternatives 17) × (bars front ≡ 16) × BeginsCell (front ++ w ∷ [])))
 
@@ -89,7 +89,7 @@ bar_no_equals e = cc
 
 -- the two words of a cell in front
 two_words : (done : List Words) (s a : List ℕ) (Begins : Words → Type 0) → bytes_eq s bar ≡ false → bytes_eq a bar ≡ false → (a ≡ codes "=" → ⊥) → ((front : Words) → Begins front → BeginsCell (s ∷ a ∷ front)) → (front : Words) (at : Option (List ℕ)) (kind : TableKind) → WhyTail Begins front at kind → WhyCell done (s ∷ a ∷ front) at kind
-two_words done s a Begins sb ab ae begins front None kind (inl (k, h)) = inl (k, s ∷ a ∷ [], ap (λ (v : Words). s ∷ a ∷ v) h)
+two_words done s a Begins sb ab ae begins front None kind (inl (k, h)) = inl (k, s, a, ap (λ (v : Words). s ∷ a ∷ v) h)
 two_words done s a Begins sb ab ae begins front None kind (inr (k, inl h)) = inr (k, λ p q. ae (snoc_last (s ∷ []) p a (codes "=") (ap (λ (v : Words). s ∷ a ∷ v) (sym h) ∙ q)))
 two_words done s a Begins sb ab ae begins front None kind (inr (k, inr (r, h))) = inr (k, λ p q. bar_no_equals (snoc_last (s ∷ a ∷ codes "=" ∷ r) p bar (codes "=") (ap (λ (v : Words). s ∷ a ∷ v) (sym h) ∙ q)))
 two_words done s a Begins sb ab ae begins front (Some w) kind (inl k) = inl k

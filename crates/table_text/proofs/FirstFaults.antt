@@ -82,12 +82,12 @@ has_row done c all some = (done ++ c ∷ [], end_row ∷ [], all_push done c all
 
 -- ---- side conditions
 
-free_front : (done : List Words) (front : Words) → FewBars 16 front → IsNew done front → FreeFront BreaksCell done front
+pub free_front : (done : List Words) (front : Words) → FewBars 16 front → IsNew done front → FreeFront BreaksCell done front
 free_front done front few new p w q e k (inl ((s, one, has), _)) = new s w q (e ∙ ap (λ (v : Words). v ++ w ∷ q) one) has
 free_front done front few new p w q e k (inr (count, _)) = let h : bars p < 16 = few p w q e in omega arith
 
 -- a cell line that was read fails no side condition
-new_row : (t : Table) (done : List Words) (c : CellLine) → Marks t done → CanStand t c → IsNew done (cell_words c)
+pub new_row : (t : Table) (done : List Words) (c : CellLine) → Marks t done → CanStand t c → IsNew done (cell_words c)
 new_row t done (local s e alts) m can v w more h has =
     let first : v ≡ state_word s = cc in
     let second : w ≡ local_event_word e = cc in
@@ -97,7 +97,7 @@ new_row t done (answer s e alts) m can v w more h has =
     let second : w ≡ bus_event_word e = cc in
     m.snoop_free s e can.0 (subst (λ (x : List ℕ). HasLine done x (bus_event_word e)) first (subst (λ (x : List ℕ). HasLine done v x) second has))
 
-few_row : (t : Table) (c : CellLine) → CanStand t c → FewBars 16 (cell_words c)
+pub few_row : (t : Table) (c : CellLine) → CanStand t c → FewBars 16 (cell_words c)
 few_row t (local s e alts) can = few_total 16 (cell_words (local s e alts)) (rw (state_no_bar s, local_event_no_bar e) (let h = alternatives_bars local_words local_bars alts can.1 in let few = can.2 in omega arith))
 few_row t (answer s e alts) can = few_total 16 (cell_words (answer s e alts)) (rw (state_no_bar s, bus_event_no_bar e) (let h = alternatives_bars snoop_words snoop_bars alts can.1 in let few = can.2 in omega arith))
 
@@ -139,7 +139,7 @@ cell_fault done t ws front at kind all no_end r parts stays why = go at parts st
     judged w begins j = judged_fault table_grammar table_rows [] closed spelled BreaksCell given given (rows done) front w kind (begins_row done (front ++ w ∷ []) all begins) j
 
     go : (at : Option (List ℕ)) → ws ≡ front ++ from at r → ((more : Words) → cell_line t (front ++ from at more) ≡ Err kind) → WhyCell (rows done) front at kind → IsFault table_grammar (lines_items (rows done) ++ map word front) (item_at at) kind
-    go None p stays (inl (k, q, e)) = unfit None p stays (subst IsHard (sym k) tt) (inl (last_equals (rows done) front q e, k))
+    go None p stays (inl (k, s, a, e)) = unfit None p stays (subst IsHard (sym k) tt) (inl (last_equals (rows done) front (s ∷ a ∷ []) e, k))
     go None p stays (inr (k, no_equals)) = unfit None p stays (subst IsHard (sym k) tt) (inr (no_last_equals (rows done) front no_equals, k))
     go (Some w) p stays (inl k) = unfit (Some w) p stays (subst IsHard (sym k) tt) k
     go (Some w) p stays (inr (inl (k, twice, begins))) = judged w begins (inl (twice, k))

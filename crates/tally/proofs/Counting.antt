@@ -1,5 +1,5 @@
 -- Counts and sums over a journal, one event after another.
-use Rattle.std.proofs.Common.{◌≡◌, ℕ, zero, suc, ◌+◌, ◌^◌, ◌<◌, ◌≤◌, Option, Some, None, take, Bool, true, false, cond, List, [], ◌∷◌, ◌++◌, map, length, get_or, append_assoc, refl, sym, ap, ◌∙◌, arith}
+use Rattle.std.proofs.Common.{◌≡◌, ℕ, suc, ◌+◌, ◌^◌, ◌<◌, ◌≤◌, Option, Some, None, take, Bool, true, false, cond, List, [], ◌∷◌, ◌++◌, map, length, get_or, append_assoc, refl, sym, ap, ◌∙◌, arith}
 use Rattle.std.specs.List.{sum_by, flat_map}
 use Rattle.std.specs.Prelude.{slice_index, slice_set, unwrap_or, ◌==◌}
 use Rattle.std.proofs.lemmas.List.Sums.{sum_by_push, sum_by-cons}

@@ -126,7 +126,17 @@ impl Machine {
         ensures legal { Legal self.new.setup.memory (entries self.new.journal) }
         ensures bounded { length self.new.journal ≤ 8 * access_count self.new.setup }
     {
-        let _ = &self.setup;
+        let applied = self.attempt(event);
+        let _journal = self.journal();
+        applied
+    }
+
+    /// The same, of which less is said.
+    fn attempt(&mut self, event: &Event) -> Result<(), NotARun>
+        ensures exact { IsOk result ↔ MayHappen self.old event.now }
+        ensures applied { OnOk result (self.new ≡ happened self.old event.now) }
+        ensures same { OnErr result (self.new ≡ self.old) }
+    {
         if !self.may_happen(event) {
             return Err(NotARun);
         }

@@ -9,21 +9,8 @@ ghost use Rattle.backplane.specs.Machine.{MayHappen, happened, configuration};
 
 use crate::machine::Machine;
 use bus_signals::{BoardNo, BusEvent, LineNo};
-use flat_memory::Entry;
 use journal::{Connected, Done, Event};
 use moesi_state::{Outcome, State};
-
-/// The entry of a completed access, which is the board's access of this number.
-fn entry_of(board: BoardNo, place: u32, done: &Done) -> Entry
-    ensures { result ≡ record { board = board; place = place; access = done.now.access; reply = done.now.reply } }
-{
-    Entry {
-        board,
-        place,
-        access: done.access,
-        reply: done.reply,
-    }
-}
 
 impl Machine {
     /// A board completes its present access by itself.
@@ -32,8 +19,8 @@ impl Machine {
         ensures { self.new ≡ happened self.old (Event.Local board before after done) }
     {
         self.parts.settle(board, after, &done);
-        let entry = entry_of(board, self.parts.place(board), &done);
-        self.histories.push(board, entry);
+        let place = self.parts.place(board);
+        self.histories.keep(board, place, &Some(done));
         self.journal.push_reserved(Event::Local {
             board,
             before,
@@ -113,10 +100,8 @@ impl Machine {
         let master = connected.master;
         let access = self.present(master);
         let carried = self.parts.carry(&connected, access);
-        if let Some(done) = &carried.done {
-            let entry = entry_of(master, self.parts.place(master), done);
-            self.histories.push(master, entry);
-        }
+        let place = self.parts.place(master);
+        self.histories.keep(master, place, &carried.done);
         self.journal.push_reserved(Event::DataPhase(carried));
     }
 }

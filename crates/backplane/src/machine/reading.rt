@@ -1,6 +1,6 @@
 //! What the machine shows.
 
-ghost use Rattle.std.specs.Prelude.{◌≡◌, ◌↔◌, ◌*◌, ◌<◌, ◌≤◌, ℕ, Some, None, IsTrue, IsNone, length, find, is_some, option_map};
+ghost use Rattle.std.specs.Prelude.{◌≡◌, ◌↔◌, ◌*◌, ◌<◌, ◌≤◌, ℕ, Some, None, IsTrue, IsNone, length, find, is_some, option_map, slice_get};
 ghost use Rattle.bus_signals.specs.declared.Access.{Access};
 ghost use Rattle.moesi_state.specs.declared.State.TheVariants.{I};
 ghost use Rattle.bus_model.specs.Setup.{line_count, access_count, board_places, WellFormed, AllInClass};
@@ -12,9 +12,17 @@ ghost use Rattle.backplane.specs.Machine.{configuration, IsBoard};
 
 use crate::machine::Machine;
 use bus_signals::{Access, BoardNo, LineNo};
+use data_phase::get_memory;
 use flat_memory::Entry;
 use journal::Event;
 use moesi_state::State;
+
+/// The access at a place of a script, from 0.
+fn access_at(script: &[Access], place: u32) -> Option<Access>
+    ensures { result ≡ slice_get script.now place }
+{
+    script.get(place as usize).copied()
+}
 
 impl Machine {
     /// The number of boards.
@@ -53,7 +61,7 @@ impl Machine {
         ensures { result ≡ present_access self.now.setup (configuration self.now).boards board }
     {
         let place = self.parts.place(board);
-        self.setup.script(board).get(place as usize).copied()
+        access_at(self.setup.script(board), place)
     }
 
     /// The lowest board whose script is not at its end.
@@ -61,7 +69,7 @@ impl Machine {
         ensures lowest { result ≡ find (λ board. is_some (present_access self.now.setup (configuration self.now).boards board)) (board_places self.now.setup) }
         ensures none { IsNone result ↔ Complete self.now.setup (configuration self.now) }
     {
-        for place in 0..self.boards() {
+        for place in 0..self.parts.rack.boards() {
             let board = BoardNo(place + 1);
             if self.present(board).is_some() {
                 return Some(board);
@@ -89,7 +97,7 @@ impl Machine {
         requires { line < line_count self.now.setup }
         ensures { result ≡ memory_line (configuration self.now).memory line }
     {
-        self.parts.memory.line(line)
+        get_memory(&self.parts.memory, line)
     }
 
     /// The state and the words of a board's copy of a line.

@@ -29,7 +29,7 @@ impl Machine {
         ensures count { result ≡ length (events_of_turns self.old.setup (configuration self.old) (board_places self.old.setup)) }
         ensures goes_on { (Complete self.old.setup (configuration self.old) → ⊥) → 1 ≤ result }
     {
-        let _ = &self.setup;
+        let _journal = self.journal();
         let boards = self.boards();
         let mut did = 0;
         for place in 0..boards {

@@ -1,30 +1,20 @@
 //! Whether the answers to a transaction are those of the boards that hold its line.
 
-ghost use Rattle.std.specs.Prelude.{◌≡◌, ◌≤◌, ◌&&◌, ◌∷◌, [], ◌==◌, IfNone, IfSome, List, false, filter, length, drop, ℕ};
+ghost use Rattle.std.specs.Prelude.{◌≡◌, ◌≤◌, ◌∷◌, IfNone, IfSome, List, false, length, drop, ℕ};
 ghost use Rattle.class_relation.specs.Actions.{has_answer};
 ghost use Rattle.class_relation.specs.Tables.{answers_of};
-ghost use Rattle.bus_model.specs.Setup.{table_of};
+ghost use Rattle.bus_model.specs.Setup.{board_places, table_of};
 ghost use Rattle.bus_model.specs.Configuration.{state_at};
-ghost use Rattle.bus_model.specs.Connecting.{other_holders};
 ghost use Rattle.board.specs.Rack.{IsBoard, setup_of};
-ghost use Rattle.connect_phase.specs.Answering.{is_other_holder};
-ghost use Rattle.backplane.specs.Permits.{do_answers_fit, does_answer_fit};
+ghost use Rattle.backplane.specs.Permits.{do_fit_among, does_answer_fit};
 
 use crate::permits::cell::has_answer;
 use crate::permits::same::is_board;
 use board::Rack;
 use bus_signals::{BoardNo, BusEvent, LineNo};
 use class_relation::SnoopAction;
+use connect_phase::is_other_holder;
 use journal::{Answer, Connected};
-
-/// Whether another board than the master holds a line.
-fn is_other_holder(rack: &Rack, master: BoardNo, line: LineNo, board: BoardNo) -> bool
-    requires { IsBoard rack.now board }
-    ensures { result ≡ is_other_holder rack.now.rows master line board }
-{
-    let held = rack.state_of(board, line).holds();
-    board.0 != master.0 && held
-}
 
 /// Whether an action is one that a board may answer with.
 fn may_answer(
@@ -63,8 +53,8 @@ fn answered(rack: &Rack, connected: &Connected, board: BoardNo, before: usize) -
     requires board { IsBoard rack.now board }
     requires within { before ≤ length connected.now.answers }
     ensures within { IfSome result (λ count. count ≤ length connected.now.answers) }
-    ensures some { IfSome result (λ count. (rest : List ℕ) → do_answers_fit (setup_of rack.now) rack.now.rows connected.now.line connected.now.event (filter (is_other_holder rack.now.rows connected.now.master connected.now.line) (board ∷ rest)) (drop before connected.now.answers) ≡ do_answers_fit (setup_of rack.now) rack.now.rows connected.now.line connected.now.event (filter (is_other_holder rack.now.rows connected.now.master connected.now.line) rest) (drop count connected.now.answers)) }
-    ensures none { IfNone result ((rest : List ℕ) → do_answers_fit (setup_of rack.now) rack.now.rows connected.now.line connected.now.event (filter (is_other_holder rack.now.rows connected.now.master connected.now.line) (board ∷ rest)) (drop before connected.now.answers) ≡ false) }
+    ensures some { IfSome result (λ count. (rest : List ℕ) → do_fit_among rack.now connected.now (board ∷ rest) (drop before connected.now.answers) ≡ do_fit_among rack.now connected.now rest (drop count connected.now.answers)) }
+    ensures none { IfNone result ((rest : List ℕ) → do_fit_among rack.now connected.now (board ∷ rest) (drop before connected.now.answers) ≡ false) }
 {
     if !is_other_holder(rack, connected.master, connected.line, board) {
         return Some(before);
@@ -88,7 +78,7 @@ fn answered(rack: &Rack, connected: &Connected, board: BoardNo, before: usize) -
 /// Whether each other board that holds the line gives one answer, in rising order of boards, and each answer is an
 /// alternative of the board's cell.
 pub fn do_answers_fit(rack: &Rack, connected: &Connected) -> bool
-    ensures { result ≡ do_answers_fit (setup_of rack.now) rack.now.rows connected.now.line connected.now.event (other_holders (setup_of rack.now) rack.now.rows connected.now.master connected.now.line) connected.now.answers }
+    ensures { result ≡ do_fit_among rack.now connected.now (board_places (setup_of rack.now)) connected.now.answers }
 {
     let mut count = 0;
     for place in 0..rack.boards() {

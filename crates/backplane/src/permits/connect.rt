@@ -1,23 +1,21 @@
 //! Whether a transaction may be connected.
 
-ghost use Rattle.std.specs.Prelude.{◌≡◌, ◌↔◌, ◌||◌, IsTrue, List, not};
+ghost use Rattle.std.specs.Prelude.{◌≡◌, ◌||◌, not};
 ghost use Rattle.moesi_state.specs.Outcomes.{is_invalid};
-ghost use Rattle.bus_model.specs.Setup.{Setup};
-ghost use Rattle.bus_model.specs.Configuration.{Configuration};
-ghost use Rattle.bus_model.specs.Events.{Event, Connect};
+ghost use Rattle.bus_model.specs.Events.{Connect};
 ghost use Rattle.bus_model.specs.Steps.{ForAccess, ForVictim, Purpose};
 ghost use Rattle.backplane.specs.Parts.{IsPartOf};
-ghost use Rattle.backplane.specs.Permits.{SoundParts, TellsFor};
+ghost use Rattle.backplane.specs.Permits.{TellsFor, TellsWhether};
 
 use crate::parts::Parts;
 use crate::permits::answering::do_answers_fit;
 use crate::permits::cell::{cell_of, has_local, is_invalid, line_of, wants_row};
 use crate::permits::drop::is_victim;
-use crate::permits::same::{all_hold, is_event, is_line, is_outcome};
+use crate::permits::same::{all_hold, is_event, is_line};
 use bus_signals::{Access, BusEvent};
 use class_relation::LocalAction;
 use journal::Connected;
-use moesi_state::{Outcome, State};
+use moesi_state::Outcome;
 
 /// Whether there is room for the row that an outcome may bring.
 fn has_room(full: bool, outcome: &Outcome) -> bool
@@ -30,7 +28,7 @@ fn has_room(full: bool, outcome: &Outcome) -> bool
 /// row that it may bring.
 fn serves_access(parts: &Parts, access: &Access, connected: &Connected) -> bool
     requires { IsPartOf parts.now connected.now.master }
-    ensures { (setup : Setup) (events : List Event) (c : Configuration) → SoundParts parts.now setup events c → (IsTrue result ↔ ForAccess setup c.rows connected.now access.now) }
+    ensures { TellsWhether parts.now (λ setup c. ForAccess setup c.rows connected.now access.now) result }
 {
     let action = LocalAction {
         result: connected.outcome,
@@ -49,21 +47,21 @@ fn serves_access(parts: &Parts, access: &Access, connected: &Connected) -> bool
 /// Whether a transaction flushes a victim that the master owns, to make room for its access.
 fn serves_victim(parts: &Parts, access: &Access, connected: &Connected) -> bool
     requires { IsPartOf parts.now connected.now.master }
-    ensures { (setup : Setup) (events : List Event) (c : Configuration) → SoundParts parts.now setup events c → (IsTrue result ↔ ForVictim setup c.rows connected.now access.now) }
+    ensures { TellsWhether parts.now (λ setup c. ForVictim setup c.rows connected.now access.now) result }
 {
     let master = connected.master;
     let wants = wants_row(cell_of(&parts.rack, master, access));
     let victim = is_victim(parts.rack.victim(master, line_of(access)), connected.line);
     let owned = parts.rack.state_of(master, connected.line).owns();
     let flushes = is_event(connected.event, BusEvent::Flu);
-    let given_up = is_outcome(&connected.outcome, &Outcome::Fixed(State::I));
+    let given_up = is_invalid(&connected.outcome);
     all_hold(&[wants, victim, owned, flushes, given_up])
 }
 
 /// Whether a transaction has one of its two purposes.
 fn has_purpose(parts: &Parts, access: &Access, connected: &Connected) -> bool
     requires { IsPartOf parts.now connected.now.master }
-    ensures { (setup : Setup) (events : List Event) (c : Configuration) → SoundParts parts.now setup events c → (IsTrue result ↔ Purpose setup c.rows connected.now access.now) }
+    ensures { TellsWhether parts.now (λ setup c. Purpose setup c.rows connected.now access.now) result }
 {
     if serves_access(parts, access, connected) {
         return true;

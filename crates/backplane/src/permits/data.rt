@@ -1,13 +1,12 @@
 //! Whether the data of a transaction may move.
 
-ghost use Rattle.std.specs.Prelude.{◌≡◌, ◌↔◌, ◌*◌, ◌<◌, IsTrue, List, length};
+ghost use Rattle.std.specs.Prelude.{◌≡◌, ◌↔◌, IsTrue, List};
 ghost use Rattle.bus_model.specs.Setup.{Setup};
 ghost use Rattle.bus_model.specs.Configuration.{Configuration, present_access};
 ghost use Rattle.bus_model.specs.Configuration as model;
 ghost use Rattle.bus_model.specs.Events.{Event, DataPhase};
 ghost use Rattle.bus_model.specs.Steps.{Can};
-ghost use Rattle.data_phase.specs.Seen.{AreOthers};
-ghost use Rattle.backplane.specs.Parts.{IsPartOf};
+ghost use Rattle.backplane.specs.Parts.{CanCarry};
 ghost use Rattle.backplane.specs.Permits.{SoundParts};
 
 use crate::parts::Parts;
@@ -49,9 +48,7 @@ pub fn permits_data(
     access: Option<Access>,
     carried: &Carried,
 ) -> bool
-    requires master { IsPartOf parts.now connected.now.master }
-    requires line { 4 * connected.now.line < length parts.now.memory }
-    requires others { AreOthers parts.now.rack connected.now.master connected.now.answers }
+    requires { CanCarry parts.now connected.now }
     ensures { (setup : Setup) (events : List Event) (c : Configuration) → SoundParts parts.now setup events c → c.phase ≡ model.Connected connected.now → access ≡ present_access setup c.boards connected.now.master → (IsTrue result ↔ Can setup c (DataPhase carried.now)) }
 {
     let there = access.is_some();

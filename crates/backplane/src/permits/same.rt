@@ -5,7 +5,7 @@ ghost use Rattle.std.specs.List.{list_all};
 
 use bus_signals::{Access, BoardNo, BusEvent, LineNo};
 use journal::{Done, Source};
-use moesi_state::{Outcome, State};
+use moesi_state::State;
 
 /// Whether two accesses are the same.
 pub fn is_access(a: &Access, b: &Access) -> bool
@@ -44,13 +44,6 @@ pub fn are_boards(a: &[BoardNo], b: &[BoardNo]) -> bool
 
 /// Whether two lists of states are the same.
 pub fn are_states(a: &[(BoardNo, State)], b: &[(BoardNo, State)]) -> bool
-    ensures { IsTrue result ↔ (a.now ≡ b.now) }
-{
-    *a == *b
-}
-
-/// Whether two outcomes are the same.
-pub fn is_outcome(a: &Outcome, b: &Outcome) -> bool
     ensures { IsTrue result ↔ (a.now ≡ b.now) }
 {
     *a == *b

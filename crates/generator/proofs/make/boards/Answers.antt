@@ -1,8 +1,7 @@
-use Rattle.std.proofs.Common.{arith, ap, length, sym, ◌∙◌, ◌+◌, ◌∷◌, [], ◌++◌, List}
+use Rattle.std.proofs.Common.{arith, ap, length, ◌∙◌}
 use Rattle.std.proofs.lemmas.List.{length-map}
-use Rattle.table_check.specs.declared.boards.BoardSpec.{BoardSpec}
 use Rattle.generator.specs.Generated.{generated_board, numbers_to}
-use Rattle.generator.proofs.Making.{length-numbers, numbers_more}
+use Rattle.generator.proofs.Making.{length-numbers}
 use Rattle.generator.proofs.make.boards.Goals as goal
 
 pub push_reserved-requires : goal.push_reserved-requires

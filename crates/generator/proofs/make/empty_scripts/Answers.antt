@@ -1,6 +1,5 @@
-use Rattle.std.proofs.Common.{arith, ap, length, sym, ◌∙◌, ◌+◌, ◌∷◌, [], ◌++◌, List}
+use Rattle.std.proofs.Common.{arith, ap, length, sym, ◌∙◌, []}
 use Rattle.std.proofs.lemmas.List.{length-map, length-replicate}
-use Rattle.generator.proofs.Making.{replicate_one_more}
 use Rattle.generator.proofs.make.empty_scripts.Goals as goal
 
 pub push_reserved-requires : goal.push_reserved-requires

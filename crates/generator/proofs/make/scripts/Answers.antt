@@ -1,4 +1,4 @@
-use Rattle.std.proofs.Common.{arith, ap, length, sym, ◌≡◌, ◌∙◌, ◌+◌, ◌*◌, ◌%◌}
+use Rattle.std.proofs.Common.{arith, ap, length, ◌≡◌, ◌∙◌, ◌+◌, ◌*◌}
 use Rattle.std.proofs.lemmas.Nat.{mod_below}
 use Rattle.generator.specs.Words.{generator_after}
 use Rattle.generator.proofs.Making.{dealt_none, dealt_more, length-dealt}

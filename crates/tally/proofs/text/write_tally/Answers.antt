@@ -1,4 +1,4 @@
-use Rattle.std.proofs.Common.{List, ℕ, ap, ◌≡◌, ◌∙◌, ◌++◌, codes, length}
+use Rattle.std.proofs.Common.{List, ℕ, ap, ◌∙◌, ◌++◌, codes, length}
 use Rattle.std.specs.List.{flat_map}
 use Rattle.class_relation.specs.Tables.{bus_events}
 use Rattle.bus_model.specs.Entries.{entries}

@@ -1,15 +1,12 @@
 use Rattle.std.proofs.Common.{refl, sym}
 use Rattle.bus_model.specs.Events.{Connect, Drop, Grant, Local, Raise}
 use Rattle.backplane.specs.Machine.{configuration}
-use Rattle.backplane.proofs.Permitted.{of_event, one_setup, part_of, sound_parts}
+use Rattle.backplane.proofs.Permitted.{board_part, of_event, one_setup, sound_parts}
 use Rattle.backplane.proofs.machine.Machine.may_happen.Goals as goal
 
 pub permits_local-requires : goal.permits_local-requires
 permits_local-requires c =
-    let m = c.args.self.now in
-    let sound = sound_parts c.self.inside.setup c.self.inside.journal.items _ c.self.inside.parts _ m c.self.invariant c.self.view_is in
-    let there = c.in-Some.ensures.board refl in
-    part_of c.self.inside.parts m.setup m.journal (configuration m) sound c.in-Local.board there.low there.high
+    board_part c.self.inside.setup c.self.inside.journal.items _ c.self.inside.parts _ c.args.self.now c.self.invariant c.self.view_is c.in-Local.board (c.in-Some.ensures.board refl)
 
 pub returns-in-Some : goal.returns-in-Some
 returns-in-Some c =
@@ -19,10 +16,7 @@ returns-in-Some c =
 
 pub permits_drop-requires : goal.permits_drop-requires
 permits_drop-requires c =
-    let m = c.args.self.now in
-    let sound = sound_parts c.self.inside.setup c.self.inside.journal.items _ c.self.inside.parts _ m c.self.invariant c.self.view_is in
-    let there = c.in-Some-next.ensures.board refl in
-    part_of c.self.inside.parts m.setup m.journal (configuration m) sound c.in-Drop.board there.low there.high
+    board_part c.self.inside.setup c.self.inside.journal.items _ c.self.inside.parts _ c.args.self.now c.self.invariant c.self.view_is c.in-Drop.board (c.in-Some-next.ensures.board refl)
 
 pub returns-in-Some-next : goal.returns-in-Some-next
 returns-in-Some-next c =
@@ -32,10 +26,7 @@ returns-in-Some-next c =
 
 pub permits_raise-requires : goal.permits_raise-requires
 permits_raise-requires c =
-    let m = c.args.self.now in
-    let sound = sound_parts c.self.inside.setup c.self.inside.journal.items _ c.self.inside.parts _ m c.self.invariant c.self.view_is in
-    let there = c.in-Some-next-2.ensures.board refl in
-    part_of c.self.inside.parts m.setup m.journal (configuration m) sound c.in-Raise.board there.low there.high
+    board_part c.self.inside.setup c.self.inside.journal.items _ c.self.inside.parts _ c.args.self.now c.self.invariant c.self.view_is c.in-Raise.board (c.in-Some-next-2.ensures.board refl)
 
 pub returns-in-Some-next-2 : goal.returns-in-Some-next-2
 returns-in-Some-next-2 c =
@@ -45,10 +36,7 @@ returns-in-Some-next-2 c =
 
 pub permits_connect-requires : goal.permits_connect-requires
 permits_connect-requires c =
-    let m = c.args.self.now in
-    let sound = sound_parts c.self.inside.setup c.self.inside.journal.items _ c.self.inside.parts _ m c.self.invariant c.self.view_is in
-    let there = c.in-Some-next-3.ensures.board refl in
-    part_of c.self.inside.parts m.setup m.journal (configuration m) sound c.in-Connect.connected.master there.low there.high
+    board_part c.self.inside.setup c.self.inside.journal.items _ c.self.inside.parts _ c.args.self.now c.self.invariant c.self.view_is c.in-Connect.connected.master (c.in-Some-next-3.ensures.board refl)
 
 pub returns-in-Some-next-3 : goal.returns-in-Some-next-3
 returns-in-Some-next-3 c =
@@ -57,9 +45,7 @@ returns-in-Some-next-3 c =
     of_event m c.args.event.now (Connect c.in-Connect.connected) c.permits_connect.result c.in-Connect.is (c.permits_connect.ensures m.setup m.journal (configuration m) sound (sym c.in-Some-next-3.ensures.access))
 
 pub permits_grant-requires : goal.permits_grant-requires
-permits_grant-requires c =
-    let m = c.args.self.now in
-    one_setup c.self.inside.parts m.setup m.journal (configuration m) (sound_parts c.self.inside.setup c.self.inside.journal.items _ c.self.inside.parts _ m c.self.invariant c.self.view_is)
+permits_grant-requires c = one_setup c.self.inside.setup c.self.inside.journal.items _ c.self.inside.parts _ c.args.self.now c.self.invariant c.self.view_is
 
 pub returns-in-Grant : goal.returns-in-Grant
 returns-in-Grant c =

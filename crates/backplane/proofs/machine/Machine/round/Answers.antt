@@ -3,7 +3,6 @@ use Rattle.bus_model.specs.Setup.{board_places}
 use Rattle.bus_model.specs.Turns.{events_of_turns}
 use Rattle.backplane.specs.Machine.{Machine, configuration}
 use Rattle.backplane.specs.Moves.{after_turns, events_told, moved, turn_of}
-use Rattle.backplane.proofs.Running.{run_of, run_sound}
 use Rattle.backplane.proofs.Turning.{done_by, next_count, next_in_round, next_turn, round_goes_on, told_count, told_few, whole_round}
 use Rattle.backplane.proofs.machine.Machine.round.Goals as goal
 
@@ -42,7 +41,6 @@ returns-clause-count c =
 pub returns-clause-goes_on : goal.returns-clause-goes_on
 returns-clause-goes_on c = λ unfinished.
     let m = c.args.self.now in
-    let run = run_of c.self.inside.setup c.self.inside.journal.items _ c.self.inside.parts _ m c.self.invariant c.self.view_is in
-    let some = round_goes_on m.setup m.journal (configuration m) run.fits (run_sound m run) unfinished in
+    let some = round_goes_on m.setup m.journal (configuration m) c.journal-journal.ensures.setup c.journal-journal.ensures.sound unfinished in
     let count = returns-clause-count c in
     omega arith

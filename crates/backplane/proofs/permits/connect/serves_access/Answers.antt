@@ -1,4 +1,4 @@
-use Rattle.std.proofs.Common.{Bool, Some, ap, length, not, sym, arith, ◌||◌, ◌∙◌, ◌≡◌, ℕ}
+use Rattle.std.proofs.Common.{Some, ap, length, not, sym, arith, ◌||◌, ◌∙◌, ◌≡◌, ℕ}
 use Rattle.std.specs.List.{list_any}
 use Rattle.std.specs.Prelude.{is_some, option_map}
 use Rattle.moesi_state.specs.declared.State.{State}
@@ -9,7 +9,8 @@ use Rattle.bus_model.specs.Board.{access_line, cell_of, is_full}
 use Rattle.backplane.proofs.Alternatives.{any_local}
 use Rattle.backplane.proofs.Connecting.{access_told, full_is}
 use Rattle.backplane.proofs.Deciding.{as_well}
-use Rattle.backplane.proofs.Shown.{cell_shown, victim_shown}
+use Rattle.backplane.proofs.Planning.{rack-victim}
+use Rattle.backplane.proofs.Shown.{cell_shown}
 use Rattle.backplane.proofs.permits.connect.serves_access.Goals as goal
 
 pub returns : goal.returns
@@ -27,7 +28,7 @@ returns c = λ setup events x sound.
     let high = c.requires.rack in
     let boards = ap length shows.boards in
     let full : c.is_some-full.result ≡ is_full setup x.rows t.master t.line =
-    c.is_some-full.ensures ∙ ap is_some (c.victim.ensures ∙ ap (option_map {U = ℕ} (λ (v : ℕ × State). v.0)) (victim_shown setup x parts shows t.master t.line))
+    c.is_some-full.ensures ∙ ap is_some (c.victim.ensures ∙ ap (option_map {U = ℕ} (λ (v : ℕ × State). v.0)) (rack-victim setup x parts t.master t.line shows))
     ∙ full_is setup x.rows t.master t.line sound.fits (record { low = low; high = omega arith }) in
     as_well c.all_hold.result _ _ c.all_hold.ensures
     (access_told setup x.rows t access c.is_line-line.result c.has_local-alternative.result c.has_room-room.result

@@ -1,4 +1,4 @@
-use Rattle.std.proofs.Common.{Some, ap, sym, ◌∙◌, ◌≡◌, ℕ}
+use Rattle.std.proofs.Common.{ap, sym, ◌∙◌, ◌≡◌, ℕ}
 use Rattle.std.specs.List.{list_any}
 use Rattle.std.specs.Prelude.{not, option_map}
 use Rattle.class_relation.specs.declared.LocalAction.{LocalAction}
@@ -8,7 +8,8 @@ use Rattle.board.specs.Rack.{setup_of}
 use Rattle.bus_model.specs.Board.{access_line, victim, wants_row}
 use Rattle.bus_model.specs.Configuration.{is_connected, is_held, state_at}
 use Rattle.backplane.proofs.Deciding.{as_well}
-use Rattle.backplane.proofs.Shown.{cell_shown, state_shown, victim_shown}
+use Rattle.backplane.proofs.Planning.{rack-victim}
+use Rattle.backplane.proofs.Shown.{cell_shown, state_shown}
 use Rattle.backplane.proofs.Telling.{drop_told}
 use Rattle.backplane.proofs.permits.drop.permits_drop.Goals as goal
 
@@ -22,7 +23,7 @@ returns c = λ setup events x sound present.
     let first = option_map {U = ℕ} (λ (v : ℕ × State). v.0) in
     let wants : c.wants_row-wants.result ≡ wants_row setup x.rows board access = c.wants_row-wants.ensures ∙ ap (list_any (λ (a : LocalAction). not (is_invalid a.result))) (c.cell_of.ensures ∙ cell_shown setup x parts shows board access) in
     let gone : c.victim.result ≡ first (victim setup x.rows board (access_line access)) =
-    c.victim.ensures ∙ ap (λ l. first (victim (setup_of parts.rack) parts.rack.rows board l)) c.line_of.ensures ∙ ap first (victim_shown setup x parts shows board (access_line access)) in
+    c.victim.ensures ∙ ap (λ l. first (victim (setup_of parts.rack) parts.rack.rows board l)) c.line_of.ensures ∙ ap first (rack-victim setup x parts board (access_line access) shows) in
     let state : c.state_of.result ≡ state_at x.rows board line = c.state_of.ensures.state ∙ state_shown setup x parts shows board line in
     as_well c.all_hold.result _ _ c.all_hold.ensures
     (drop_told setup _ x board line c.args.before access

@@ -1,4 +1,4 @@
-use Rattle.std.proofs.Common.{Bool, ap, not, sym, ◌||◌, ◌∙◌, ◌≡◌}
+use Rattle.std.proofs.Common.{ap, not, sym, ◌||◌, ◌∙◌, ◌≡◌}
 use Rattle.std.specs.List.{list_any}
 use Rattle.class_relation.specs.declared.LocalAction.{LocalAction}
 use Rattle.class_relation.specs.Actions.{has_local, same_local, silently}

@@ -1,4 +1,4 @@
-use Rattle.std.proofs.Common.{◌≡◌, ◌∙◌, sym, ◌==◌}
+use Rattle.std.proofs.Common.{◌∙◌, sym, ◌==◌}
 use Rattle.std.specs.Cmp.Lexicographic.{pointwise_decides}
 use denote.Enum.Bare.{same_true, true_same}
 use Rattle.moesi_state.specs.contracts.State.{the_type}

@@ -2,7 +2,7 @@ use Rattle.std.proofs.Common.{ap, ◌∙◌, ◌*◌, List, ℕ, ◌≤◌, subs
 use Rattle.std.specs.List.{AllByRecursion}
 use Rattle.rand_pcg.specs.Lcg.{Lcg}
 use Rattle.generator.specs.Words.{generator_after}
-use Rattle.generator.specs.Schedule.{turns_of, seeded_turns}
+use Rattle.generator.specs.Schedule.{turns_of}
 use Rattle.generator.proofs.Scheduling.{turns_by_words, turns_are_places}
 use Rattle.generator.proofs.turns.SeededTurns.new.Goals as goal
 

@@ -1,4 +1,4 @@
-use Rattle.std.proofs.Common.{ℕ, List, sym, ap, ◌∙◌, ◌%◌, ◌+◌, ◌-◌, ◌∷◌, arith}
+use Rattle.std.proofs.Common.{ℕ, sym, ap, ◌∙◌, ◌%◌, ◌+◌, ◌-◌, ◌∷◌, arith}
 use Rattle.generator.specs.Schedule.{turns_of}
 use Rattle.generator.proofs.Scheduling.{turn_taken}
 use Rattle.generator.proofs.turns.SeededTurns.next_turn.Goals as goal

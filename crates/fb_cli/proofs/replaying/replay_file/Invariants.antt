@@ -1,0 +1,15 @@
+use Rattle.std.proofs.Common.{◌≡◌, ◌+◌, ◌-◌, ◌≤◌, IfSome}
+use Rattle.fb_cli.specs.Opening.{HasRead}
+use Rattle.fb_cli.proofs.replaying.replay_file.Given as goal
+
+abbrev pub invariant-loop-piece : goal.invariant-loop-piece
+invariant-loop-piece g l = record {
+  in_range : l.taken ≤ l.limit + 1;
+  later : g.F.Shelf.faults l.fn.shelf ≤ g.F.Shelf.faults l.shelf;
+  file : g.F.Shelf.file l.shelf ≡ g.F.Shelf.file l.fn.shelf;
+  setup : l.replay.setup ≡ l.fn.machine.setup;
+  read : IfSome (g.F.Shelf.file l.fn.shelf) (λ bytes_of. HasRead l.replay l.taken (bytes_of l.name) (g.F.Shelf.rest l.shelf));
+}
+
+abbrev pub decreases-loop-piece : goal.decreases-loop-piece
+decreases-loop-piece g l = l.limit + 1 - l.taken

@@ -1,0 +1,123 @@
+//! `replay`: a trace replayed on a setup, read piece by piece.
+
+ghost use Rattle.std.specs.Prelude.{◌≡◌, ◌≤◌, ◌<◌, ◌^◌, [], true, Ok, Err, length, IfOk, IfErr, IfSome};
+ghost use Rattle.std.specs.List.{list_all};
+ghost use Rattle.fb_edge.specs.Outside.{Rose};
+ghost use Rattle.fb_cli.specs.Report.{is_accepted};
+ghost use Rattle.fb_cli.specs.Output.{limit_of, replay_output, trace_output, traced_output};
+ghost use Rattle.fb_cli.specs.Answers.{answer_output};
+ghost use Rattle.fb_cli.specs.Opening.{FinishedAs, Gives, IsReplayed, IsUnread, OfFile, ReplayUnread, TraceCause};
+
+use crate::answers::{Answer, Refusal, Reply, long_answer, trace_answer};
+use crate::opening::{limit_of, open_setup};
+use crate::report::refusal;
+use crate::role::Role;
+use crate::running::{line, start};
+use backplane::Machine;
+use fb_edge::Shelf;
+use no_memory::NoMemory;
+use replayer::Replay;
+use setup::Setup;
+use std::alloc::Global;
+use trace_lines::ReplayFault;
+
+/// Why a file was not replayed.
+#[derive(Clone, Copy, Debug, PartialEq, Eq)]
+pub enum TraceFileFault {
+    /// The shelf failed.
+    Failed,
+    /// The file has more bytes than the limit, of which this many were taken.
+    TooLong { taken: u64 },
+    /// It is not the trace of a complete run.
+    Trace(ReplayFault),
+}
+
+/// The most bytes that are read at once.
+const PIECE: usize = 4096;
+
+/// What a trace that was read to its end comes to.
+fn finish(replay: Replay) -> Result<Machine, TraceFileFault>
+    ensures { FinishedAs replay result }
+{
+    match replay.finish() {
+        Ok(machine) => Ok(machine),
+        Err(fault) => Err(TraceFileFault::Trace(fault)),
+    }
+}
+
+/// Replays the trace of a file on a machine at its opening. It takes no memory.
+pub fn replay_file<F: Shelf>(
+    machine: Machine,
+    shelf: &mut F,
+    name: &str,
+    limit: u64,
+) -> Result<Machine, TraceFileFault>
+    requires opening { machine.journal ≡ [] }
+    requires limit { limit < 2 ^ 63 }
+    ensures replayed { IfOk result (λ m. OfFile (F.file shelf.old) name.now (IsReplayed machine limit (Ok m))) }
+    ensures fault { IfErr result (TraceCause (F.file shelf.old) name.now limit machine (Rose (F.faults shelf.old) (F.faults shelf.new))) }
+    ensures later { F.faults shelf.old ≤ F.faults shelf.new }
+    ensures file { F.file shelf.new ≡ F.file shelf.old }
+{
+    if shelf.start(name).is_err() {
+        return Err(TraceFileFault::Failed);
+    }
+    let mut replay = Replay::start(machine);
+    let mut piece = [0u8; PIECE];
+    let mut taken = 0;
+    while taken <= limit {
+        let room = limit - taken + 1;
+        let want = room.min(PIECE as u64) as usize;
+        let Ok(count) = shelf.next(&mut piece[..want]) else {
+            return Err(TraceFileFault::Failed);
+        };
+        if count == 0 {
+            return finish(replay);
+        }
+        replay.feed(&piece[..count]);
+        taken += count as u64;
+    }
+    Err(TraceFileFault::TooLong { taken })
+}
+
+/// The ending of the run of a file's trace on a machine at its opening.
+fn traced<F: Shelf>(alloc: Global, machine: Machine, name: &str, shelf: &mut F) -> Reply
+    requires opening { machine.journal ≡ [] }
+    ensures { Gives (λ answer. OfFile (F.file shelf.old) name.now (λ bytes. answer_output answer ≡ trace_output machine bytes)) (IsUnread Role.Trace (Rose (F.faults shelf.old) (F.faults shelf.new))) result }
+{
+    let Ok(line) = line(alloc) else {
+        return Reply::Refused(Refusal::NoMemory);
+    };
+    match replay_file(machine, shelf, name, limit_of(Role::Trace)) {
+        Ok(machine) => Reply::Answered(Answer::Replayed { machine, line }),
+        Err(TraceFileFault::Failed) => Reply::Refused(Refusal::Unread(Role::Trace)),
+        Err(TraceFileFault::TooLong { taken }) => {
+            Reply::of(long_answer(alloc, Role::Trace, taken))
+        }
+        Err(TraceFileFault::Trace(fault)) => Reply::of(trace_answer(alloc, fault)),
+    }
+}
+
+/// The ending of the run of a file's trace on a setup, or the report where a table is not accepted.
+fn judged<F: Shelf>(alloc: Global, setup: Setup, name: &str, shelf: &mut F) -> Reply
+    ensures { Gives (λ answer. OfFile (F.file shelf.old) name.now (λ bytes. answer_output answer ≡ traced_output bytes setup)) (λ role. (list_all is_accepted setup.tables ≡ true) × IsUnread Role.Trace (Rose (F.faults shelf.old) (F.faults shelf.new)) role) result }
+{
+    match refusal(alloc, setup.tables()) {
+        Ok(Some(answer)) => Reply::Answered(answer),
+        Ok(None) => match start(alloc, setup) {
+            Ok(machine) => traced(alloc, machine, name, shelf),
+            Err(NoMemory) => Reply::Refused(Refusal::NoMemory),
+        },
+        Err(NoMemory) => Reply::Refused(Refusal::NoMemory),
+    }
+}
+
+/// Does `replay`.
+pub fn replay<F: Shelf>(alloc: Global, name: &str, trace: &str, shelf: &mut F) -> Reply
+    ensures { Gives (λ answer. IfSome (F.file shelf.old) (λ bytes_of. answer_output answer ≡ replay_output (bytes_of name.now) (bytes_of trace.now))) (ReplayUnread (F.file shelf.old) name.now (Rose (F.faults shelf.old) (F.faults shelf.new))) result }
+{
+    match open_setup(alloc, name, shelf) {
+        Ok(setup) => judged(alloc, setup, trace, shelf),
+        Err(reply) => reply,
+    }
+}

@@ -1,0 +1,4 @@
+pub mod Stepping
+pub mod Reading
+pub mod Tracing
+pub mod Saying

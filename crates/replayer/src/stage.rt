@@ -1,0 +1,14 @@
+//! How far a replay has come.
+
+use trace_lines::ReplayFault;
+
+/// How far a replay has come.
+#[derive(Clone, Copy, Debug, PartialEq, Eq)]
+pub enum Stage {
+    /// More lines are read.
+    Reading,
+    /// The line `end` was read.
+    Ended,
+    /// A line was at fault.
+    Refused(ReplayFault),
+}

@@ -1,0 +1,7 @@
+pub mod Cutting
+pub mod Feeds
+pub mod Long
+pub mod Fed
+pub mod Ended
+pub mod Meanings
+pub mod Printing
