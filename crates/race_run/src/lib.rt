@@ -22,8 +22,6 @@
 
 mod racing;
 mod run;
-#[cfg(test)]
-mod tests;
 mod workers;
 
 pub use racing::Racing;
