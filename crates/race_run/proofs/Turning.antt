@@ -9,10 +9,11 @@ use Rattle.moesi_state.specs.declared.Outcome.{Outcome}
 use Rattle.moesi_state.specs.Outcomes.{settled}
 use Rattle.bus_model.specs.Setup.{Setup, WellFormed, AllInClass}
 use Rattle.bus_model.specs.Events.{Event, Local, Drop, Raise, Grant, Connect, DataPhase, Transaction}
-use Rattle.bus_model.specs.Configuration.{Configuration, Phase, Idle, Granted, Connected, present_access, is_held, is_granted, is_raised, state_at, words_at}
+use Rattle.bus_model.specs.Configuration.{Configuration, Phase, Idle, Granted, Connected, opening, present_access, is_held, is_granted, is_raised, state_at, words_at}
 use Rattle.bus_model.specs.Board.{access_line, is_clean}
 use Rattle.bus_model.specs.Carrying.{reply_of}
-use Rattle.bus_model.specs.Steps.{Can, is_quiet}
+use Rattle.bus_model.specs.Steps.{Can, Step, after, is_quiet}
+use Rattle.bus_model.specs.Runs.{after_all}
 use Rattle.bus_model.specs.Soundness.{Sound}
 use Rattle.bus_model.specs.Turns.{Turn, Did, Waits, Finished, LineHeld, turn, turn_for, access_turn, action_turn, transaction_turn, room_turn, bus_turn, request_turn, local_turn, victim_for, decide, own_transaction, bus_holder}
 use Rattle.coherence.proofs.Turns.{turns_are_steps}
@@ -125,6 +126,11 @@ pub events-more : (history more : List (ℕ × Event)) → events_of (history ++
 events-more [] more = refl
 events-more (e ∷ history) more = ap (λ (es : List Event). e.1 ∷ es) (events-more history more)
 
+-- The configuration after one more event.
+last_event : (c : Configuration) (events : List Event) (event : Event) → after_all c (events ++ event ∷ []) ≡ after (after_all c events) event
+last_event c [] event = refl
+last_event c (e ∷ events) event = last_event (after c e) events event
+
 -- ---- a turn of the machine
 
 module _ (m : Machine) (who : ℕ) where
@@ -165,8 +171,14 @@ module _ (m : Machine) (who : ℕ) where
             ∙ next_history (turn_of m who) refl
             ∙ ap (λ (es : List Event). history_after (made m.journal) who (turn m.setup (at es) who)) (sym same);
         step = λ event did.
-            subst (λ (es : List Event). Can m.setup (at es) event) (sym same)
-            (turns_are_steps m.setup m.journal (configuration m) who event well accepted sound (ap (λ (es : List Event). turn m.setup (at es) who) (sym same) ∙ did));
+            let does : turn_of m who ≡ Did event = ap (λ (es : List Event). turn m.setup (at es) who) (sym same) ∙ did in
+            record {
+              can = subst (λ (es : List Event). Can m.setup (at es) event) (sym same) (turns_are_steps m.setup m.journal (configuration m) who event well accepted sound does);
+              moves =
+                  ap at (events-made next.journal ∙ ap (λ (n : Machine). n.journal) (next_is ∙ ap (moved m) does))
+                  ∙ last_event (opening m.setup) m.journal event
+                  ∙ ap (λ (es : List Event). after (at es) event) (sym same);
+            };
         sound = subst (λ (es : List Event). Sound m.setup es (at es)) (sym same) sound;
       }
 

@@ -3,7 +3,7 @@ use Rattle.std.specs.Prelude.{◌≡◌, ℕ, ◌≤◌, List, [], ◌∷◌, �
 use Rattle.bus_model.specs.Setup.{Setup}
 use Rattle.bus_model.specs.Events.{Event, Local, Drop, Raise, Grant, Connect, DataPhase}
 use Rattle.bus_model.specs.Configuration.{Configuration, present_access}
-use Rattle.bus_model.specs.Steps.{Can}
+use Rattle.bus_model.specs.Steps.{Step}
 use Rattle.bus_model.specs.Soundness.{Sound}
 use Rattle.bus_model.specs.Turns.{Turn, Did, Waits, Finished, turn}
 use Rattle.backplane.specs.declared.moved.Moved.{Moved}
@@ -47,11 +47,11 @@ history_after history who (Did event) = history ++ (who, event) ∷ []
 history_after history who (Waits why) = history
 history_after history who Finished = history
 
--- A turn of a board leads from one history to another: it is the turn of the model, and what it does is a step from the configuration before it, which is sound.
+-- A turn of a board leads from one history to another. It is the turn of the model, and what it does is a step from the configuration before it, which is sound.
 pub record IsTurn (setup : Setup) (before : List (ℕ × Event)) (who : ℕ) (answer : Moved) (after : List (ℕ × Event)) : Type 0 where
   pub told : answer ≡ told (turn_after setup before who)
   pub history : after ≡ history_after before who (turn_after setup before who)
-  pub step : (event : Event) → turn_after setup before who ≡ Did event → Can setup (reached setup before) event
+  pub step : (event : Event) → turn_after setup before who ≡ Did event → Step setup (reached setup before) event (reached setup after)
   pub sound : Sound setup (events_of before) (reached setup before)
 
 -- The script of a board is at its end after a history.
