@@ -1,7 +1,9 @@
 //! Whole runs of small setups, as tests: each event of a run is applied, and events that are no step are refused. Traces are
-//! replayed.
+//! replayed. Boards race.
 #![tactic(auto)]
 
+#[cfg(test)]
+mod races;
 #[cfg(test)]
 mod tables;
 #[cfg(test)]

@@ -9,7 +9,7 @@ use std::test::Fail;
 use trace_text::read_event;
 
 /// The machine of a setup, at its opening.
-fn machine(alloc: Global, text: &str) -> Result<Machine, Fail> {
+pub(crate) fn machine(alloc: Global, text: &str) -> Result<Machine, Fail> {
     if text.len() > 10_000 {
         return Err(Fail::from("a long setup"));
     }
