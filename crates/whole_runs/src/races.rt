@@ -66,10 +66,7 @@ impl Gate for Meeting {
 }
 
 /// A machine under the rule, and a seat for each of its boards.
-fn open(
-    alloc: Global,
-    machine: Machine,
-) -> Result<(Ruled<Racing>, Vec<BoardSeat<Racing>>), Fail>
+fn open(alloc: Global, machine: Machine) -> Result<(Ruled<Racing>, Vec<BoardSeat<Racing>>), Fail>
     ensures seats { IfOk result (λ r. (seats_of r.0 ≡ length r.1.items) × (0 < length r.1.items)) }
     ensures own { IfOk result (λ r. All (IsSeat r.0) r.1.items) }
 {
