@@ -1,11 +1,11 @@
 -- A script that is at its end stays there, and a machine all of whose scripts are at their ends is finished.
-use Rattle.std.proofs.Common.{◌≡◌, ◌⊎◌, inl, inr, ℕ, zero, suc, ◌+◌, ◌<◌, ◌≤◌, ◌^◌, Bool, true, false, List, [], ◌∷◌, ◌++◌, Option, None, Some, refl, sym, ap, ◌∙◌, subst, arith, length, unwrap_or, append_assoc}
+use Rattle.std.proofs.Common.{◌≡◌, ◌⊎◌, inl, inr, ℕ, zero, suc, ◌+◌, ◌<◌, ◌≤◌, ◌^◌, true, false, List, [], ◌∷◌, ◌++◌, Option, None, Some, refl, sym, ap, ◌∙◌, subst, arith, length, unwrap_or, append_assoc}
 use Rattle.std.specs.Prelude.{slice_get, slice_index_or, All}
 use Rattle.std.proofs.lemmas.Bool.{cases_lt}
 use Rattle.bus_signals.specs.declared.Access.{Access}
-use Rattle.bus_model.specs.Places.{at_place, change_index, change_place}
+use Rattle.bus_model.specs.Places.{change_index, change_place}
 use Rattle.bus_model.specs.Setup.{Setup, WellFormed, script_of}
-use Rattle.bus_model.specs.Events.{Event, Local, Drop, Raise, Grant, Connect, DataPhase, Carried, Done}
+use Rattle.bus_model.specs.Events.{Event, Local, Drop, Raise, Grant, Connect, DataPhase, Done}
 use Rattle.bus_model.specs.Configuration.{Configuration, Progress, fresh, opening, present_access, progress_of, words_at}
 use Rattle.bus_model.specs.Effects.{asking, completed, put_copy, spent}
 use Rattle.bus_model.specs.Board.{access_line}
@@ -21,7 +21,7 @@ use Rattle.backplane.proofs.Turning.{complete_then}
 use Rattle.ruled_turn.specs.Entries.{GoesOn}
 use Rattle.ruled_turn.specs.Seats.{number, seen, turns}
 use Rattle.race_run.specs.Histories.{made, events_of, IsAtEnd}
-use Rattle.race_run.specs.Workers.{Seat, AreLater, IsLater}
+use Rattle.race_run.specs.Workers.{Seat, AreLater}
 use Rattle.race_run.specs.Races.{GoesOnFrom}
 use Rattle.race_run.proofs.Turning.{events-made, events-more}
 

@@ -1,6 +1,6 @@
 -- Turns of a machine as turns of its history.
-use Rattle.std.proofs.Common.{◌≡◌, ◌⊎◌, inl, inr, ℕ, Bool, true, false, not, cond, List, [], ◌∷◌, ◌++◌, Option, None, Some, refl, sym, ap, ◌∙◌, subst}
-use Rattle.std.specs.Prelude.{◌&&◌, ◌==◌, map}
+use Rattle.std.proofs.Common.{◌≡◌, inl, inr, ℕ, Bool, true, false, not, cond, List, [], ◌∷◌, ◌++◌, Option, None, Some, refl, sym, ap, ◌∙◌, subst}
+use Rattle.std.specs.Prelude.{◌&&◌, ◌==◌}
 use Rattle.std.proofs.lemmas.Bool.{eqb-true}
 use Rattle.bus_signals.specs.declared.Access.{Access}
 use Rattle.bus_signals.specs.declared.BusEvent.{BusEvent}
@@ -8,11 +8,11 @@ use Rattle.moesi_state.specs.declared.State.{State}
 use Rattle.moesi_state.specs.declared.Outcome.{Outcome}
 use Rattle.moesi_state.specs.Outcomes.{settled}
 use Rattle.bus_model.specs.Setup.{Setup, WellFormed, AllInClass}
-use Rattle.bus_model.specs.Events.{Event, Local, Drop, Raise, Grant, Connect, DataPhase, Transaction}
+use Rattle.bus_model.specs.Events.{Event, Local, Drop, Transaction}
 use Rattle.bus_model.specs.Configuration.{Configuration, Phase, Idle, Granted, Connected, opening, present_access, is_held, is_granted, is_raised, state_at, words_at}
 use Rattle.bus_model.specs.Board.{access_line, is_clean}
 use Rattle.bus_model.specs.Carrying.{reply_of}
-use Rattle.bus_model.specs.Steps.{Can, Step, after, is_quiet}
+use Rattle.bus_model.specs.Steps.{Can, after, is_quiet}
 use Rattle.bus_model.specs.Runs.{after_all}
 use Rattle.bus_model.specs.Soundness.{Sound}
 use Rattle.bus_model.specs.Turns.{Turn, Did, Waits, Finished, LineHeld, turn, turn_for, access_turn, action_turn, transaction_turn, room_turn, bus_turn, request_turn, local_turn, victim_for, decide, own_transaction, bus_holder}
@@ -20,8 +20,8 @@ use Rattle.coherence.proofs.Turns.{turns_are_steps}
 use Rattle.backplane.specs.declared.moved.Moved.{Moved}
 use Rattle.backplane.specs.Machine.{Machine, configuration, configuration_after}
 use Rattle.backplane.specs.Moves.{told, moved, turn_of}
-use Rattle.ruled_turn.specs.Entries.{GoesOn, Grows, Turns}
-use Rattle.race_run.specs.Histories.{maker, made, events_of, reached, turn_after, history_after, IsTurn, IsAtEnd}
+use Rattle.ruled_turn.specs.Entries.{Grows, Turns}
+use Rattle.race_run.specs.Histories.{maker, made, events_of, reached, history_after, IsTurn, IsAtEnd}
 
 -- ---- a turn is of its board
 

@@ -1,14 +1,13 @@
 //! A race: all boards of a machine move it from threads of their own, to its end.
 
-ghost use Rattle.std.specs.Prelude.{◌≡◌, ℕ, ◌+◌, ◌^◌, ◌<◌, List, ◌++◌, All, IfOk, IfErr, IsTrue, IsFalse, Some, length, slice_get, slice_index_or};
-ghost use Rattle.bus_model.specs.Events.{Event};
+ghost use Rattle.std.specs.Prelude.{◌≡◌, ℕ, ◌+◌, ◌^◌, ◌<◌, All, IfOk, IfErr, IsTrue, IsFalse, Some, length, slice_get};
 ghost use Rattle.bus_model.specs.Runs.{Complete};
 ghost use Rattle.bus_model.specs.Setup.{WellFormed};
 ghost use Rattle.bus_model.specs.Soundness.{Sound};
 ghost use Rattle.backplane.specs.Machine.{configuration};
 ghost use Rattle.ruled_turn.specs.Entries.{GoesOn};
 ghost use Rattle.ruled_turn.specs.Seats.{given, seats_of, number, seen, turns};
-ghost use Rattle.race_run.specs.Histories.{made, IsAtEnd};
+ghost use Rattle.race_run.specs.Histories.{made};
 ghost use Rattle.race_run.specs.Workers.{IsSeat, HasWorked, AreLater};
 ghost use Rattle.race_run.specs.Races.{GoesOnFrom};
 
@@ -23,6 +22,7 @@ use std::sync::Wait;
 use std::thread::Threads;
 
 /// There was no memory. The machine comes back as it was given.
+#[derive(Drop)]
 pub struct RaceFault {
     pub machine: Machine,
 }

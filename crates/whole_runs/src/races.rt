@@ -1,6 +1,6 @@
 //! Races: each board moves the machine from a thread of its own.
 
-ghost use Rattle.std.specs.Prelude.{◌≡◌, ◌<◌, ◌≤◌, length, All, IfOk};
+ghost use Rattle.std.specs.Prelude.{◌≡◌, ◌<◌, length, All, IfOk};
 ghost use Rattle.ruled_turn.specs.Seats.{seats_of};
 ghost use Rattle.race_run.specs.Workers.{IsSeat};
 

@@ -6,7 +6,7 @@ use Rattle.ruled_turn.specs.Entries.{GoesOn}
 use Rattle.ruled_turn.specs.Seats.{number, seen, turns}
 use Rattle.race_run.specs.Histories.{made, IsAtEnd}
 use Rattle.race_run.specs.Workers.{Seat}
-use Rattle.race_run.proofs.Ends.{AllWorked, further, goes_on_from, is_finished}
+use Rattle.race_run.proofs.Ends.{further, goes_on_from, is_finished}
 use Rattle.race_run.proofs.run.race.Goals as goal
 
 pub returns-clause-journal : goal.returns-clause-journal
