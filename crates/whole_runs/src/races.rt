@@ -9,6 +9,7 @@ use crate::tests::machine;
 use backplane::Machine;
 use bus_signals::BoardNo;
 use fb_edge::{Gate, OpenGate};
+use journal::Event;
 use race_run::{RaceFault, Racing, race, work, work_all};
 use ruled_turn::{BoardSeat, OpenFault, Ruled, Spent};
 use std::alloc::{AllocError, Global};
@@ -18,7 +19,7 @@ use std::test::Fail;
 use std::thread;
 use std::thread::Threads;
 
-/// At a meeting a board looks at most so often for the other.
+/// A gate looks at most so often for a turn that it waits for.
 const MOST_LOOKS: u32 = 1_000_000_000;
 
 /// Holds the first turn of each of two boards until that of the other has come.
@@ -58,6 +59,29 @@ impl Gate for Meeting {
         for _ in 0..MOST_LOOKS {
             if other.load(Ordering::SeqCst) {
                 self.met.fetch_add(1, Ordering::SeqCst);
+                return;
+            }
+            thread::yield_now();
+        }
+    }
+}
+
+/// Holds the first turn of each board but the first until the first board has come to its fifth turn.
+#[derive(Drop)]
+struct HeadStart {
+    ahead: AtomicBool,
+}
+
+impl Gate for HeadStart {
+    fn pass(&self, board: BoardNo, turn: u64) {
+        if board.0 == 1 && turn == 4 {
+            self.ahead.store(true, Ordering::SeqCst);
+        }
+        if board.0 == 1 || turn > 0 {
+            return;
+        }
+        for _ in 0..MOST_LOOKS {
+            if self.ahead.load(Ordering::SeqCst) {
                 return;
             }
             thread::yield_now();
@@ -121,6 +145,20 @@ fn writer_and_reader(alloc: Global) -> Result<Machine, Fail> {
     machine(alloc, text.as_str())
 }
 
+/// Whether the first four events are those of one transaction.
+fn begins_with_a_transaction(events: &[Event]) -> bool {
+    matches!(
+        events,
+        [
+            Event::Raise { .. },
+            Event::Grant { .. },
+            Event::Connect(_),
+            Event::DataPhase(_),
+            ..
+        ]
+    )
+}
+
 #[test]
 fn a_board_without_accesses_makes_one_turn(rt: HostRuntime) -> Result<(), Fail> {
     let text = format!(in rt.alloc();
@@ -173,6 +211,26 @@ fn a_race_passes_the_gate_before_each_turn(rt: HostRuntime) -> Result<(), Fail> 
         }
         Err(RaceFault { machine }) => {
             assert!(rt; machine.journal().is_empty());
+            drop(machine);
+            Err(AllocError)?
+        }
+    }
+}
+
+// Rounds would let board 2 raise a request before board 1 has the bus.
+#[test]
+fn a_race_goes_by_the_turns_of_its_workers(rt: HostRuntime) -> Result<(), Fail> {
+    let machine = writer_and_reader(rt.alloc())?;
+    let gate = HeadStart {
+        ahead: AtomicBool::new(false),
+    };
+    match race(&rt, rt.alloc(), machine, &gate) {
+        Ok(machine) => {
+            assert!(rt; machine.finished() && machine.journal().len() == 8);
+            assert!(rt; begins_with_a_transaction(machine.journal()));
+            Ok(())
+        }
+        Err(RaceFault { machine }) => {
             drop(machine);
             Err(AllocError)?
         }
