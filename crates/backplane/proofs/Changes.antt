@@ -1,5 +1,5 @@
 -- Changes at a place of a list, and what they keep.
-use Rattle.std.proofs.Common.{◌≡◌, ℕ, zero, suc, ◌-◌, ◌<◌, ◌≤◌, List, [], ◌∷◌, map, length, set, get_or, refl, ap, sym, ◌∙◌, arith, Option, Some, None}
+use Rattle.std.proofs.Common.{◌≡◌, ℕ, zero, suc, ◌-◌, ◌<◌, ◌≤◌, List, [], ◌∷◌, map, length, set, get_or, refl, ap, arith, Some}
 use Rattle.std.specs.Prelude.{slice_get}
 use Rattle.bus_model.specs.Places.{at_place, change_index, change_place}
 

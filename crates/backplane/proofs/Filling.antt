@@ -1,6 +1,6 @@
 -- There is room for each row that an event brings.
-use Rattle.std.proofs.Common.{◌≡◌, ℕ, zero, suc, ◌+◌, ◌*◌, ◌<◌, ◌≤◌, Bool, true, false, cond, not, ◌&&◌, List, [], ◌∷◌, map, length, refl, ap, sym, subst, ◌∙◌, arith, Option, Some, None, option_map, ◌⊎◌, inl, inr}
-use Rattle.std.specs.Prelude.{unwrap_or, slice_index_or, filter, nat_le, nat_lt, ◌==◌, IsTrue, IsFalse}
+use Rattle.std.proofs.Common.{◌≡◌, ℕ, suc, ◌+◌, ◌*◌, ◌<◌, ◌≤◌, Bool, true, false, cond, not, ◌&&◌, List, [], ◌∷◌, length, refl, ap, sym, subst, ◌∙◌, arith, Some, option_map, inl, inr}
+use Rattle.std.specs.Prelude.{unwrap_or, slice_index_or, filter, nat_le, ◌==◌}
 use Rattle.std.specs.List.{AllByRecursion}
 use Rattle.std.proofs.lemmas.Bool.{both_ways, false_from_ne_true, leb-false, lt-ltb, eq-eqb}
 use Rattle.coherence.proofs.Lists.{in-all}
@@ -25,7 +25,7 @@ use Rattle.bus_model.specs.Board.{access_line, is_full, has_no_room, is_in_set}
 use Rattle.bus_model.specs.Carrying.{master_state}
 use Rattle.bus_model.specs.Connecting.{AnswersFit, other_holders, responses}
 use Rattle.bus_model.specs.Soundness.{Sound, PhaseSound, TransactionSound}
-use Rattle.bus_model.specs.Steps.{CanLocal, Purpose, ForAccess, ForVictim}
+use Rattle.bus_model.specs.Steps.{CanLocal, Purpose}
 use Rattle.board.specs.Rack.{Rack, can_fill, set_has_room, setup_of}
 use Rattle.board.specs.Rack.{IsBoard as RackBoard}
 use Rattle.coherence.proofs.Cells.{spec_there, permitted_local, reached_at}
@@ -36,7 +36,6 @@ use Rattle.coherence.proofs.RowChanges.{row_absent}
 use Rattle.coherence.proofs.Victims.{victim_is}
 use Rattle.data_phase.specs.Seen.{AreOthers}
 use Rattle.backplane.specs.declared.parts.Parts.{Parts}
-use Rattle.backplane.specs.Machine.{configuration_after}
 use Rattle.backplane.specs.Parts.{PartsShow, IsPartOf, CanCarry}
 
 -- A board that is not full for a line, and reaches a state that holds it, can fill a row of it.
@@ -101,7 +100,7 @@ purpose-room setup events c t access well sound present (inl f) absent held =
     let gone : is_invalid t.outcome ≡ true → holds (master_state t) ≡ false = λ h. ap (λ (o : Outcome). holds (settled o (responses t.answers).ch)) (same_outcome-eq t.outcome (Fixed I) h) in
     let not_full : is_full setup c.rows t.master t.line ≡ false = false_from_ne_true (is_full setup c.rows t.master t.line) (λ full. both_ways (holds (master_state t)) (gone (f.room full)) held) in
     let reached = reached_local (table_of setup t.master) (state_at c.rows t.master (access_line access)) (kind_of access) (record { result = t.outcome; bus = Some t.event }) (responses t.answers).ch
-      (reached_at setup c.rows c.boards t.master (access_line access) sound.rows.each) f.alternative in
+    (reached_at setup c.rows c.boards t.master (access_line access) sound.rows.each) f.alternative in
     room-is setup c.rows t.master t.line (master_state t) well (board_there setup c.boards t.master access well present) reached held absent not_full
 
 others-from : {X : Type 0} (rack : Rack) (master line : ℕ) (rows : List Row) (k : ℕ) (xs : List X) → 1 ≤ k → k + length xs ≤ length rack.specs + 1
@@ -141,8 +140,8 @@ can-carry setup events c p t well sound s part is =
       master = part;
       line = line-there setup events c p t.line sound s (purpose-line setup events c t access well sound present purpose);
       others = others-fit p.rack setup c.rows t.master t.line t.event (other_holders setup c.rows t.master t.line) t.answers ts.answers
-        (others-from p.rack t.master t.line c.rows 1 setup.boards (omega arith) (omega (arith, long)));
+          (others-from p.rack t.master t.line c.rows 1 setup.boards (omega arith) (omega (arith, long)));
       room = λ absent held.
-        rack-room setup c p t.master t.line s
-        ∙ purpose-room setup events c t access well sound present purpose (ap (λ (rows : List Row). has_row rows t.master t.line) (sym s.rack.rows) ∙ absent) held;
+          rack-room setup c p t.master t.line s
+          ∙ purpose-room setup events c t access well sound present purpose (ap (λ (rows : List Row). has_row rows t.master t.line) (sym s.rack.rows) ∙ absent) held;
     }

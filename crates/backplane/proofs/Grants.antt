@@ -1,7 +1,7 @@
 -- The requests of the arbiter are those of the configuration: the same boards compete, with the same numbers, and the same board wins.
-use Rattle.std.proofs.Common.{◌≡◌, ℕ, zero, suc, ◌+◌, ◌-◌, ◌≤◌, Bool, true, false, cond, List, [], ◌∷◌, map, length, get_or, refl, ap, sym, ◌∙◌, arith, Option, Some, None, option_map}
+use Rattle.std.proofs.Common.{◌≡◌, ℕ, zero, suc, ◌+◌, ◌-◌, ◌≤◌, Bool, true, false, cond, List, [], ◌∷◌, map, length, get_or, refl, ap, sym, ◌∙◌, arith, Option, Some, option_map}
 use Rattle.std.specs.Prelude.{slice_get, unwrap_or, filter, find, ◌&&◌, ◌==◌}
-use Rattle.bus_model.specs.Places.{at_place, places_from}
+use Rattle.bus_model.specs.Places.{places_from}
 use Rattle.bus_model.specs.Setup.{Setup, BoardSpec, number_of}
 use Rattle.bus_model.specs.Events.{Grant, Raise, Transaction}
 use Rattle.bus_model.specs.Configuration.{Configuration, Progress, Idle, Granted, Connected, fresh, is_raised}
@@ -29,8 +29,8 @@ numbers-from f r k (spec ∷ specs) (p ∷ boards) (m ∷ marks) agree fit =
     go m (r k) (fit.0 ∙ sym agree.1) (numbers-from f r (suc k) specs boards marks agree.2 fit.1)
   where
     go : (m b : Bool) → m ≡ b → raised_numbers (map (λ (s : BoardSpec). s.number) specs) marks ≡ map f (filter r (places_from (suc k) specs))
-      → cond m (spec.number ∷ raised_numbers (map (λ (s : BoardSpec). s.number) specs) marks) (raised_numbers (map (λ (s : BoardSpec). s.number) specs) marks)
-      ≡ map f (cond b (k ∷ filter r (places_from (suc k) specs)) (filter r (places_from (suc k) specs)))
+        → cond m (spec.number ∷ raised_numbers (map (λ (s : BoardSpec). s.number) specs) marks) (raised_numbers (map (λ (s : BoardSpec). s.number) specs) marks)
+        ≡ map f (cond b (k ∷ filter r (places_from (suc k) specs)) (filter r (places_from (suc k) specs)))
     go true true e rest = ap (λ (n : ℕ). n ∷ raised_numbers (map (λ (s : BoardSpec). s.number) specs) marks) (sym agree.0) ∙ ap (λ (ns : List ℕ). f k ∷ ns) rest
     go true false e rest = cc
     go false true e rest = cc
@@ -45,9 +45,9 @@ winner-there f r k n (spec ∷ specs) (p ∷ boards) (m ∷ marks) agree fit =
     go m (r k) (fit.0 ∙ sym agree.1) (winner-there f r (suc k) n specs boards marks agree.2 fit.1)
   where
     go : (m b : Bool) → m ≡ b
-      → winner_from (suc k) (map (λ (s : BoardSpec). s.number) specs) marks n ≡ find (λ board. f board == n) (filter r (places_from (suc k) specs))
-      → cond (m && (spec.number == n)) (Some k) (winner_from (suc k) (map (λ (s : BoardSpec). s.number) specs) marks n)
-      ≡ find (λ board. f board == n) (cond b (k ∷ filter r (places_from (suc k) specs)) (filter r (places_from (suc k) specs)))
+        → winner_from (suc k) (map (λ (s : BoardSpec). s.number) specs) marks n ≡ find (λ board. f board == n) (filter r (places_from (suc k) specs))
+        → cond (m && (spec.number == n)) (Some k) (winner_from (suc k) (map (λ (s : BoardSpec). s.number) specs) marks n)
+        ≡ find (λ board. f board == n) (cond b (k ∷ filter r (places_from (suc k) specs)) (filter r (places_from (suc k) specs)))
     go true true e rest =
         ap (λ (x : ℕ). cond (x == n) (Some k) (winner_from (suc k) (map (λ (s : BoardSpec). s.number) specs) marks n)) (sym agree.0)
         ∙ ap (λ (o : Option ℕ). cond (f k == n) (Some k) o) rest
@@ -63,12 +63,13 @@ agree-from setup all k (spec ∷ specs) [] l hs hb = absurd (omega arith)
 agree-from setup all k (spec ∷ specs) (p ∷ boards) l hs hb =
     let first : k + 0 ≡ k = omega arith in
     let s : slice_get setup.boards k ≡ Some spec = rw first at (hs 0) in
-    let b : slice_get all k ≡ Some p = rw first at (hb 0) in
-    (ap (λ (o : Option BoardSpec). unwrap_or (option_map (λ (x : BoardSpec). x.number) o) 0) s,
+    let b : slice_get all k ≡ Some p = rw first at (hb 0) in (
+      ap (λ (o : Option BoardSpec). unwrap_or (option_map (λ (x : BoardSpec). x.number) o) 0) s,
       ap (λ (o : Option Progress). (unwrap_or o fresh).raised) b,
       agree-from setup all (suc k) specs boards (omega arith)
-        (λ j. let next : k + suc j ≡ suc k + j = omega arith in rw next at (hs (suc j)))
-        (λ j. let next : k + suc j ≡ suc k + j = omega arith in rw next at (hb (suc j))))
+          (λ j. let next : k + suc j ≡ suc k + j = omega arith in rw next at (hs (suc j)))
+          (λ j. let next : k + suc j ≡ suc k + j = omega arith in rw next at (hb (suc j))),
+    )
 
 agree-all : (setup : Setup) (boards : List Progress) → length setup.boards ≡ length boards → Agree (number_of setup) (is_raised boards) 1 setup.boards boards
 agree-all setup boards l =

@@ -1,6 +1,6 @@
 -- The histories keep each access that an event completes.
-use Rattle.std.proofs.Common.{◌≡◌, ℕ, zero, suc, ◌+◌, ◌-◌, ◌<◌, ◌≤◌, Bool, true, false, cond, List, [], ◌∷◌, ◌++◌, map, length, get_or, refl, ap, sym, subst, ◌∙◌, arith, Option, Some, None, append-nil}
-use Rattle.std.specs.Prelude.{slice_get, unwrap_or, filter, ◌==◌}
+use Rattle.std.proofs.Common.{◌≡◌, ℕ, zero, suc, ◌+◌, ◌-◌, ◌<◌, ◌≤◌, Bool, cond, List, [], ◌∷◌, ◌++◌, map, length, get_or, refl, ap, sym, ◌∙◌, arith, Option, Some, None, append-nil}
+use Rattle.std.specs.Prelude.{slice_get, unwrap_or, ◌==◌}
 use Rattle.std.proofs.lemmas.Bool.{eq-eqb, ne_eqb}
 use Rattle.std.proofs.lemmas.List.Elements.{filter-append}
 use Rattle.std.proofs.lemmas.Option.{slice_get_within}
@@ -8,7 +8,7 @@ use Rattle.bus_signals.specs.declared.Access.{Access}
 use Rattle.bus_model.specs.Places.{at_place, change_index, change_place, places_from}
 use Rattle.bus_model.specs.Setup.{Setup, BoardSpec, board_places, script_of, WellFormed}
 use Rattle.bus_model.specs.Events.{Event, Done}
-use Rattle.bus_model.specs.Configuration.{Configuration, Progress, fresh, progress_of, present_access}
+use Rattle.bus_model.specs.Configuration.{Configuration, Progress, fresh, present_access}
 use Rattle.bus_model.specs.Entries.{Entry, entries, entries_of, with_entry}
 use Rattle.bus_model.specs.Soundness.{Sound}
 use Rattle.bus_model.specs.Steps.{Can, after}
@@ -18,7 +18,7 @@ use Rattle.coherence.proofs.Progress.{board_there, user_of, done_by, entries-don
 use Rattle.coherence.proofs.Scripts.{own_place}
 use Rattle.coherence.proofs.Words.{entries_more}
 use Rattle.backplane.specs.declared.parts.Parts.{Parts}
-use Rattle.backplane.specs.Histories.{Histories, HistoriesKeep, added, kept, history_of, room_of}
+use Rattle.backplane.specs.Histories.{Histories, HistoriesKeep, kept, history_of, room_of}
 use Rattle.backplane.specs.Parts.{PartsShow, IsPartOf}
 use Rattle.backplane.proofs.Counted.{length-mapped, length-places}
 use Rattle.backplane.proofs.Stepping.{quiet-histories}
@@ -87,9 +87,9 @@ histories-follow setup events c next h event place well sound can s at keeps = g
         ∙ ap (λ (n : ℕ). entries events ++ (let e : Entry = record { board = user; place = n; access = done.access; reply = done.reply } in e) ∷ []) (sym number) in
         record {
           entries =
-            ap (λ (hs : List (List Entry)). change_place (λ list. list ++ entry ∷ []) hs user) keeps.entries
-            ∙ entry-kept (entries events) entry user setup.boards refl there.low there.high
-            ∙ ap (λ (es : List Entry). map (λ b. entries_of b es) (board_places setup)) (sym entry_is);
+              ap (λ (hs : List (List Entry)). change_place (λ list. list ++ entry ∷ []) hs user) keeps.entries
+              ∙ entry-kept (entries events) entry user setup.boards refl there.low there.high
+              ∙ ap (λ (es : List Entry). map (λ b. entries_of b es) (board_places setup)) (sym entry_is);
           rooms = keeps.rooms;
         }
 

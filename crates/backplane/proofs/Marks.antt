@@ -1,9 +1,9 @@
 -- The marks of the boards that have raised a request.
-use Rattle.std.proofs.Common.{◌≡◌, ℕ, zero, suc, ◌-◌, ◌≤◌, Bool, false, List, [], ◌∷◌, length, set, get_or, refl, ap, sym, ◌∙◌, arith}
+use Rattle.std.proofs.Common.{◌≡◌, ℕ, zero, suc, ◌-◌, ◌≤◌, Bool, false, List, [], ◌∷◌, length, set, get_or, refl, sym, ◌∙◌, arith}
 use Rattle.std.specs.Prelude.{slice_index_or, slice_set}
 use Rattle.bus_model.specs.Places.{change_index, change_place}
 use Rattle.bus_model.specs.Events.{Answer}
-use Rattle.bus_model.specs.Configuration.{Progress, progress_of, is_raised}
+use Rattle.bus_model.specs.Configuration.{Progress, is_raised}
 use Rattle.bus_model.specs.Effects.{asking, spent, answered}
 use Rattle.backplane.specs.Parts.{MarksFit}
 

@@ -1,6 +1,6 @@
 -- The transaction that is connected, and its data phase.
 use Rattle.std.proofs.Common.{◌≡◌, ℕ, ◌*◌, ◌≤◌, length, Bool, true, false, cond, List, refl, ap, sym, subst, ◌∙◌, Option, Some, None}
-use Rattle.std.specs.Prelude.{IsSome, is_some, ◌==◌}
+use Rattle.std.specs.Prelude.{IsSome, is_some}
 use Rattle.std.proofs.lemmas.Bool.{eqb-true, eq-eqb}
 use Rattle.bus_signals.specs.declared.Access.{Access}
 use Rattle.bus_model.specs.Setup.{Setup, WellFormed, AllInClass, access_count}

@@ -1,16 +1,15 @@
 -- The machine at its opening.
-use Rattle.std.proofs.Common.{◌≡◌, ℕ, zero, suc, ◌+◌, ◌-◌, ◌*◌, ◌<◌, ◌≤◌, Bool, false, List, [], ◌∷◌, ◌++◌, map, length, take, get_or, refl, ap, sym, subst, ◌∙◌, arith}
-use Rattle.std.specs.Prelude.{All, replicate, unwrap_or, slice_get, slice_index_or}
+use Rattle.std.proofs.Common.{◌≡◌, ℕ, zero, suc, ◌+◌, ◌-◌, ◌*◌, ◌<◌, ◌≤◌, false, List, [], ◌∷◌, ◌++◌, map, length, take, get_or, refl, ap, sym, subst, ◌∙◌, arith}
+use Rattle.std.specs.Prelude.{All, replicate, slice_index_or}
 use Rattle.std.specs.List.{AllByRecursion}
 use Rattle.std.proofs.lemmas.List.{take_more, take_all}
 use Rattle.bus_signals.specs.declared.Access.{Access}
 use Rattle.class_relation.specs.Tables.{Table, empty_table}
 use Rattle.table_check.specs.Accepted.{InClass, faults}
-use Rattle.table_check.specs.declared.verdict.CellFault.{CellFault}
 use Rattle.bus_model.specs.Places.{places_from}
-use Rattle.bus_model.specs.Setup.{Setup, BoardSpec, BoardFits, WellFormed, AllInClass, board_places, line_count, access_count}
-use Rattle.bus_model.specs.Configuration.{Configuration, Progress, Idle, fresh, opening, lines_of_words}
-use Rattle.bus_model.specs.Entries.{Entry, entries, entries_of}
+use Rattle.bus_model.specs.Setup.{Setup, BoardSpec, BoardFits, WellFormed, AllInClass, line_count, access_count}
+use Rattle.bus_model.specs.Configuration.{Progress, fresh, opening, lines_of_words}
+use Rattle.bus_model.specs.Entries.{Entry, entries_of}
 use Rattle.arbiter.specs.Contests.{IsContest, IsNumber}
 use Rattle.arbiter.specs.Raised.{Requests, nobody_raised}
 use Rattle.memory_board.specs.Words.{IsMemory}
@@ -70,9 +69,10 @@ all-push (t ∷ tables) (suc i) d l all here = let e : suc i + 1 ≡ suc (i + 1)
 -- One more table that is accepted.
 pub accepted-more : (tables all more : List Table) (i : ℕ) (table accepted : Table) → i < length tables → table ≡ get_or tables i table → (all ≡ take i tables) × AllByRecursion InClass (take i tables) → accepted ≡ table → InClass table → more ≡ all ++ accepted ∷ []
     → (more ≡ take (i + 1) tables) × AllByRecursion InClass (take (i + 1) tables)
-accepted-more tables all more i table accepted l is h same good e =
-    (e ∙ ap (λ (xs : List Table). xs ++ accepted ∷ []) h.0 ∙ ap (λ (t : Table). take i tables ++ t ∷ []) (same ∙ is) ∙ sym (take_more tables i table l),
-      all-push tables i table l h.1 (subst InClass is good))
+accepted-more tables all more i table accepted l is h same good e = (
+  e ∙ ap (λ (xs : List Table). xs ++ accepted ∷ []) h.0 ∙ ap (λ (t : Table). take i tables ++ t ∷ []) (same ∙ is) ∙ sym (take_more tables i table l),
+  all-push tables i table l h.1 (subst InClass is good),
+)
 
 -- ---- scripts
 

@@ -1,5 +1,5 @@
 -- A plan over parts that show a configuration is the model's turn.
-use Rattle.std.proofs.Common.{◌≡◌, ℕ, List, Bool, true, false, cond, [], Option, Some, None, option_map, refl, ap, sym, ◌∙◌}
+use Rattle.std.proofs.Common.{◌≡◌, ℕ, List, Bool, false, cond, [], Option, Some, None, option_map, refl, ap, sym, ◌∙◌}
 use Rattle.bus_signals.specs.declared.Access.{Access}
 use Rattle.bus_signals.specs.declared.LocalEvent.{LocalEvent}
 use Rattle.bus_signals.specs.Accesses.{kind_of}

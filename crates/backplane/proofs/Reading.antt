@@ -1,15 +1,13 @@
 -- What the machine shows is what its configuration has.
-use Rattle.std.proofs.Common.{◌≡◌, ℕ, zero, suc, ◌+◌, ◌*◌, ◌/◌, ◌<◌, ◌≤◌, Bool, true, false, cond, List, [], ◌∷◌, length, refl, ap, sym, subst, ◌∙◌, arith, Option, Some, None, ◌⊎◌, inl, inr}
-use Rattle.std.specs.Prelude.{find, is_some, IsSome}
+use Rattle.std.proofs.Common.{◌≡◌, ℕ, zero, suc, ◌+◌, ◌*◌, ◌<◌, ◌≤◌, Bool, true, false, cond, List, [], ◌∷◌, length, refl, ap, sym, ◌∙◌, arith, Option, Some, None, ◌⊎◌, inl, inr}
+use Rattle.std.specs.Prelude.{find, is_some}
 use Rattle.std.proofs.lemmas.Bool.{eq-eqb, both_ways, cases_lt}
 use Rattle.bus_signals.specs.declared.Access.{Access}
 use Rattle.bus_model.specs.Places.{places_from}
 use Rattle.bus_model.specs.Setup.{Setup, BoardSpec, WellFormed, line_count, board_places}
-use Rattle.bus_model.specs.Configuration.{Configuration, Progress, Phase, Idle, Granted, Connected, lines_of_words, present_access, is_granted, is_connected}
-use Rattle.bus_model.specs.Events.{Transaction}
-use Rattle.bus_model.specs.Entries.{Entry, entries, entries_of}
+use Rattle.bus_model.specs.Configuration.{Configuration, Phase, Idle, Granted, Connected, lines_of_words, present_access, is_granted, is_connected}
 use Rattle.bus_model.specs.Runs.{Complete}
-use Rattle.bus_model.specs.Soundness.{Sound, RequestSound}
+use Rattle.bus_model.specs.Soundness.{Sound}
 use Rattle.coherence.proofs.Progress.{board_there}
 use Rattle.backplane.specs.declared.parts.Parts.{Parts}
 use Rattle.backplane.specs.Machine.{Machine, configuration}

@@ -1,23 +1,23 @@
 -- The parts after each change show the configuration after it.
-use Rattle.std.proofs.Common.{◌≡◌, ℕ, zero, suc, ◌-◌, ◌≤◌, Bool, true, false, cond, List, [], ◌∷◌, map, refl, ap, sym, ◌∙◌, Option, Some, None, arith}
+use Rattle.std.proofs.Common.{◌≡◌, ℕ, zero, suc, ◌≤◌, Bool, true, false, cond, List, [], ◌∷◌, map, refl, ap, sym, ◌∙◌, Option, Some, None}
 use Rattle.std.specs.Prelude.{unwrap_or, slice_get, filter_map, if◌then◌else◌, is_some}
 use Rattle.moesi_state.specs.declared.State.{State}
 use Rattle.moesi_state.specs.States.{holds}
-use Rattle.bus_model.specs.Places.{change_index, change_place}
+use Rattle.bus_model.specs.Places.{change_place}
 use Rattle.bus_model.specs.Setup.{Setup}
 use Rattle.bus_model.specs.Events.{Answer, Transaction, Carried, Done}
 use Rattle.bus_model.specs.Configuration.{Configuration, Row, Progress, fresh, progress_of, has_row, is_granted, lines_of_words, words_at}
 use Rattle.bus_model.specs.Configuration as model
-use Rattle.bus_model.specs.Effects.{asking, spent, filled, completed, answered, ask, spend, complete, in_phase, without_grant, put_copy, put_memory, change_copy, change_rows, fill_copy, copy_as, with_row, drop_copy}
+use Rattle.bus_model.specs.Effects.{asking, spent, filled, completed, answered, ask, spend, complete, in_phase, without_grant, put_copy, put_memory, change_copy, change_rows, fill_copy, copy_as, with_row}
 use Rattle.bus_model.specs.Carrying.{written, answering_row, memory_words, master_words, state_of_master}
 use Rattle.bus_model.specs.Board.{access_line}
 use Rattle.bus_model.specs.Steps.{after_local, after_connect, after_data, complete_if}
 use Rattle.arbiter.specs.Raised.{Requests, with_request}
 use Rattle.board.specs.Rack.{Rack, Counts, counts_at, no_counts, one_more_fill, one_more_spent, rack_spent, rack_put, rack_changed, rack_filled}
-use Rattle.board.specs.Shown.{RackShows, counts_from}
-use Rattle.connect_phase.specs.Answering.{rack_answered, with_answers}
+use Rattle.board.specs.Shown.{counts_from}
+use Rattle.connect_phase.specs.Answering.{rack_answered}
 use Rattle.connect_phase.proofs.Showing.{one-place, answers-spent}
-use Rattle.data_phase.specs.Seen.{Shows, rack_after}
+use Rattle.data_phase.specs.Seen.{Shows}
 use Rattle.backplane.specs.declared.phase.Phase.{Phase}
 use Rattle.backplane.specs.declared.phase.Phase.TheVariants.{Idle}
 use Rattle.backplane.specs.declared.parts.Parts.{Parts}
@@ -113,13 +113,13 @@ shown-put-by false true setup c p rack b l state words e s = record {
   boards = ap (λ (r : Rack). r.specs) e ∙ s.boards;
   rack = record {
     rows =
-      ap (λ (r : Rack). r.rows) e
-      ∙ ap (λ (rows : List Row). with_row (record { board = b; line = l; state = state; words = words; fill = (counts_at p.rack.counts b).fills }) rows) s.rack.rows
-      ∙ ap (λ (n : ℕ). with_row (record { board = b; line = l; state = state; words = words; fill = n }) c.rows)
+        ap (λ (r : Rack). r.rows) e
+        ∙ ap (λ (rows : List Row). with_row (record { board = b; line = l; state = state; words = words; fill = (counts_at p.rack.counts b).fills }) rows) s.rack.rows
+        ∙ ap (λ (n : ℕ). with_row (record { board = b; line = l; state = state; words = words; fill = n }) c.rows)
         (ap (λ (cs : List Counts). (counts_at cs b).fills) s.rack.counts ∙ fills-place c.boards b);
     counts =
-      ap (λ (r : Rack). r.counts) e ∙ ap (λ (cs : List Counts). change_place one_more_fill cs b) s.rack.counts
-      ∙ sym (map-place counts_from filled one_more_fill (λ q. refl) c.boards b);
+        ap (λ (r : Rack). r.counts) e ∙ ap (λ (cs : List Counts). change_place one_more_fill cs b) s.rack.counts
+        ∙ sym (map-place counts_from filled one_more_fill (λ q. refl) c.boards b);
   };
   memory = s.memory;
   numbers = s.numbers;
@@ -173,7 +173,7 @@ shown-settled : (setup : Setup) (c : Configuration) (p : Parts) (put spent : Rac
     → Settles p put spent requests places b line state words → line ≡ access_line done.access → words ≡ written done.access (words_at p.rack.rows b (access_line done.access))
     → PartsShow setup c p
     → PartsShow setup (ask false (spend (complete (put_copy c b (access_line done.access) state (written done.access (words_at c.rows b (access_line done.access)))) b) b) b)
-      (record p { rack = spent; requests = requests; places = places })
+    (record p { rack = spent; requests = requests; places = places })
 shown-settled setup c p put spent requests places b line state words done low h el ew s =
     let at = access_line done.access in
     let now = written done.access (words_at c.rows b at) in
@@ -227,8 +227,8 @@ shown-connect setup c p answering next phase t ea en ep s =
       rack = record {
         rows = ap (λ (r : Rack). r.rows) en ∙ shown.rows;
         counts =
-          ap (λ (r : Rack). r.counts) en ∙ ap (λ (cs : List Counts). change_place one_more_spent cs t.master) shown.counts
-          ∙ one-place (answered c.boards t.answers) t.master ∙ ap (map counts_from) (sym (answered-swap t.answers c.boards t.master));
+            ap (λ (r : Rack). r.counts) en ∙ ap (λ (cs : List Counts). change_place one_more_spent cs t.master) shown.counts
+            ∙ one-place (answered c.boards t.answers) t.master ∙ ap (map counts_from) (sym (answered-swap t.answers c.boards t.master));
       };
       memory = s.memory;
       numbers = s.numbers;
@@ -296,7 +296,7 @@ shown-data setup c p rack words places phase e et eb shows en ep s = record {
   numbers = s.numbers;
   raised = data-marks-by e.done (placed c e) e.master p.requests.raised (placed-marks c e p.requests.raised s.raised);
   places =
-    en ∙ ap (λ (ns : List ℕ). cond (is_some e.done) (change_place suc ns e.master) ns) (s.places ∙ sym (placed-places c e))
-    ∙ sym (data-places-by e.done (placed c e) e.master);
+      en ∙ ap (λ (ns : List ℕ). cond (is_some e.done) (change_place suc ns e.master) ns) (s.places ∙ sym (placed-places c e))
+      ∙ sym (data-places-by e.done (placed c e) e.master);
   phase = ep;
 }

@@ -1,5 +1,5 @@
 -- A machine after one more event still stands.
-use Rattle.std.proofs.Common.{◌≡◌, ℕ, zero, suc, ◌+◌, ◌*◌, ◌^◌, ◌<◌, ◌≤◌, Bool, true, false, cond, List, [], ◌∷◌, ◌++◌, map, length, take, refl, ap, sym, subst, ◌∙◌, arith, Option, Some, None, length-append}
+use Rattle.std.proofs.Common.{◌≡◌, ℕ, suc, ◌+◌, ◌*◌, ◌^◌, ◌<◌, ◌≤◌, Bool, true, false, cond, List, [], ◌∷◌, ◌++◌, map, length, refl, ap, sym, subst, ◌∙◌, arith, Option, Some, None, length-append}
 use Rattle.std.specs.Prelude.{slice_get, unwrap_or, filter, not, ◌&&◌, ◌==◌}
 use Rattle.bus_signals.specs.declared.BusEvent.{BusEvent}
 use Rattle.moesi_state.specs.States.{holds}
@@ -7,12 +7,12 @@ use Rattle.moesi_state.specs.declared.Outcome.{Outcome}
 use Rattle.bus_model.specs.Turns.{transaction_of}
 use Rattle.std.specs.List.{AllByRecursion}
 use Rattle.bus_signals.specs.declared.Access.{Access}
-use Rattle.bus_model.specs.Setup.{Setup, BoardSpec, board_places, script_of, access_count}
+use Rattle.bus_model.specs.Setup.{Setup, BoardSpec, board_places, access_count}
 use Rattle.bus_model.specs.Places.{places_from}
 use Rattle.bus_model.specs.Connecting.{AnswersFit, other_holders}
 use Rattle.bus_model.specs.Events.{Event, Connect, Done, Answer, Transaction}
 use Rattle.bus_model.specs.Configuration.{Configuration, Progress, Row, fresh, state_at, present_access, opening}
-use Rattle.bus_model.specs.Entries.{Entry, entries, entries_after, entries_of, entries_with, with_entry, Legal}
+use Rattle.bus_model.specs.Entries.{Entry, entries, entries_after, entries_of, entries_with, with_entry}
 use Rattle.bus_model.specs.Runs.{Leads, Run, after_all}
 use Rattle.bus_model.specs.Soundness.{Sound, CountsWithin}
 use Rattle.bus_model.specs.Steps.{Can, after}

@@ -1,9 +1,8 @@
 -- Turns of a machine, one after another.
 use Rattle.std.proofs.lemmas.List.{take_all}
-use Rattle.std.proofs.Common.{arith, suc, take, zero, ◌<◌, List, Option, None, Some, [], ap, append-nil, append_assoc, false, length, length-append, refl, sym, true, ℕ, ◌+◌, ◌++◌, ◌∙◌, ◌∷◌, ◌≡◌, ◌≤◌, subst, inl, inr, ◌⊎◌, cond}
+use Rattle.std.proofs.Common.{arith, suc, take, zero, ◌<◌, List, [], ap, append-nil, append_assoc, false, length, length-append, refl, sym, true, ℕ, ◌+◌, ◌++◌, ◌∙◌, ◌∷◌, ◌≡◌, ◌≤◌, inl, inr, ◌⊎◌}
 use Rattle.std.specs.Prelude.{IsSome, is_some}
 use Rattle.std.proofs.lemmas.Bool.{eq-eqb}
-use Rattle.bus_signals.specs.declared.Access.{Access}
 use Rattle.bus_model.specs.Configuration.{Configuration, Connected, Granted, Idle, Phase, is_connected, is_granted, opening, present_access}
 use Rattle.bus_model.specs.Events.{Event}
 use Rattle.bus_model.specs.Runs.{Complete, after_all}
@@ -14,7 +13,7 @@ use Rattle.bus_model.specs.Steps.{after}
 use Rattle.bus_model.specs.Turns.{Did, Finished, Turn, Waits, events_of_turns, turn}
 use Rattle.coherence.proofs.Rounds.{AllDone, done_or_not, rounds_go_on, turns-append}
 use Rattle.backplane.specs.declared.moved.Moved.{Moved}
-use Rattle.backplane.specs.Machine.{Machine, configuration, happened}
+use Rattle.backplane.specs.Machine.{Machine, configuration}
 use Rattle.backplane.specs.Moves.{after_turns, events_told, moved, told, turn_of}
 
 after_more : (c : Configuration) (xs ys : List Event) → after_all c (xs ++ ys) ≡ after_all (after_all c xs) ys

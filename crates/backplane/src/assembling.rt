@@ -16,13 +16,13 @@ use crate::histories::Histories;
 use crate::machine::Machine;
 use crate::parts::Parts;
 use crate::phase::Phase;
-use setup::Setup;
 use arbiter::Requests;
 use board::Rack;
 use bus_signals::BoardNo;
 use class_relation::Table;
 use memory_board::MemoryBoard;
 use no_memory::NoMemory;
+use setup::Setup;
 use std::alloc::Global;
 use table_check::{AcceptFault, Accepted, BoardSpec, Verdict, accept};
 

@@ -6,8 +6,8 @@ ghost use Rattle.backplane.specs.Standing.{Stands};
 
 use crate::histories::Histories;
 use crate::parts::Parts;
-use setup::Setup;
 use journal::Event;
+use setup::Setup;
 use std::marker::Model;
 
 mod advancing;
@@ -43,11 +43,21 @@ impl Model for Machine {
 
 impl Machine {
     /// The machine of these parts at its opening.
-    pub(crate) fn of(setup: Setup, parts: Parts, journal: Vec<Event>, histories: Histories) -> Machine
+    pub(crate) fn of(
+        setup: Setup,
+        parts: Parts,
+        journal: Vec<Event>,
+        histories: Histories,
+    ) -> Machine
         requires empty { journal.items ≡ [] }
         requires stands { Stands setup [] (vec_capacity journal) parts histories }
         ensures { result ≡ opened setup }
     {
-        Machine { setup, parts, journal, histories }
+        Machine {
+            setup,
+            parts,
+            journal,
+            histories,
+        }
     }
 }

@@ -54,8 +54,7 @@ impl Phase {
     {
         match self {
             Phase::Connected(connected)
-                if connected.line.0 == line.0 && connected.master.0 != board.0 =>
-            {
+                if connected.line.0 == line.0 && connected.master.0 != board.0 => {
                 Some(connected.master)
             }
             _ => None,

@@ -76,6 +76,7 @@ RefusesTurns boards answer bytes =
 abbrev pub RunUnread : Option (List ℕ → List ℕ) → List ℕ → Type 0 → Role → Type 0
 RunUnread file setup shelf_rose roles.Setup = shelf_rose
 RunUnread file setup shelf_rose roles.Schedule = shelf_rose × OfFile file setup IsSetupFile
+RunUnread file setup shelf_rose roles.Trace = ⊥
 
 -- The file of a replay that was not read: the setup, or else the trace where the setup is one whose tables are accepted.
 abbrev pub ReplayUnread : Option (List ℕ → List ℕ) → List ℕ → Type 0 → Role → Type 0

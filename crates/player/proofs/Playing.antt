@@ -78,7 +78,7 @@ others P (x ∷ xs) (suc i) less h =
 pub goes_on : (now next : Machine) (did : ℕ) → next ≡ after_turns now (board_places now.setup) → did ≡ length (events_of_turns now.setup (configuration now) (board_places now.setup)) → 1 ≤ did → length now.journal + 1 ≤ length next.journal
 goes_on now next did round count some =
     let sum : length next.journal ≡ length now.journal + length (events_of_turns now.setup (configuration now) (board_places now.setup)) =
-        ap (λ (m : Machine). length m.journal) round ∙ length-append now.journal (events_of_turns now.setup (configuration now) (board_places now.setup)) in
+    ap (λ (m : Machine). length m.journal) round ∙ length-append now.journal (events_of_turns now.setup (configuration now) (board_places now.setup)) in
     omega (arith, sum, count, some)
 
 -- A board of one machine is a board of another of the same setup.

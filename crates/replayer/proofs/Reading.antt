@@ -2,15 +2,15 @@
 use Rattle.std.proofs.Common.{◌≡◌, ℕ, ◌+◌, Bool, true, false, List, [], ◌∷◌, ◌++◌, Option, Some, None, length, refl, sym, ap, ◌∙◌, arith, append_assoc, subst}
 use Rattle.std.specs.Prelude.{nat_le, if◌then◌else◌}
 use Rattle.bus_model.specs.Events.{Event}
-use Rattle.backplane.specs.Machine.{Machine}
+use Rattle.backplane.specs.Machine.{Machine, opened}
 use Rattle.trace_lines.specs.declared.fault.ReplayFault.{ReplayFault}
 use Rattle.trace_lines.specs.declared.fault.ReplayFault.TheVariants.{Spelling}
 use Rattle.trace_lines.specs.declared.reader.Found.{Found}
 use Rattle.trace_lines.specs.declared.reader.Found.TheVariants as found
 use Rattle.trace_lines.specs.Lines.{Line, closed_line, last_line, lines_of, is_end_word, event_in}
 use Rattle.trace_lines.specs.Reader.{LacksFeed, found_event, found_in}
-use Rattle.trace_lines.specs.Replaying.{Place, reading, ended, refused, by_step, by_event, at_open, at_closed, follow, fed, longest}
-use Rattle.trace_lines.proofs.Cutting.{lines_closed, lines_open}
+use Rattle.trace_lines.specs.Replaying.{Place, reading, ended, refused, by_step, by_event, at_open, at_closed, follow, fed, left_by, longest}
+use Rattle.trace_lines.proofs.Cutting.{lines_none, lines_closed, lines_open}
 use Rattle.trace_lines.proofs.Fed.{closed_fed}
 use Rattle.replayer.specs.declared.stage.Stage.{Stage}
 use Rattle.replayer.specs.declared.stage.Stage.TheVariants.{Reading, Ended, Refused}
@@ -89,3 +89,12 @@ line_unfit old machine kept Reading new now bytes fits is reads k b test no_ sam
     ∙ (open_line_fed machine (number_of_next machine) kept bytes k b ∙ ap (λ (p : Place Machine). fed step p bytes) is))
 line_unfit old machine kept Ended new now bytes fits is reads k b test no_ same = absurd (still (place_of machine kept Ended) old is reads)
 line_unfit old machine kept (Refused fault) new now bytes fits is reads k b test no_ same = absurd (still (place_of machine kept (Refused fault)) old is reads)
+
+-- ---- the first line
+
+-- Before the first byte a machine is where no text leaves it.
+pub start_stands : (machine : Machine) (kept : List ℕ) → machine.journal ≡ [] → kept ≡ [] → reading machine (number_of_next machine) kept ≡ left_by step (opened machine.setup) []
+start_stands machine kept opening fresh =
+    ap (λ (x : List ℕ). reading machine (number_of_next machine) x) fresh
+    ∙ (ap (λ (j : List Event). reading (record { setup = machine.setup; journal = j }) (length j + 1) []) opening
+    ∙ ap (follow step (opened machine.setup) 1) (sym lines_none))

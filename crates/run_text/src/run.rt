@@ -69,11 +69,7 @@ fn print_memory_line<K: Sink>(
 }
 
 /// Prints the memory.
-fn print_memory<K: Sink>(
-    machine: &Machine,
-    sink: &mut K,
-    line: &mut Text,
-) -> Result<(), PutFailed>
+fn print_memory<K: Sink>(machine: &Machine, sink: &mut K, line: &mut Text) -> Result<(), PutFailed>
     requires ready { IsReady line.old }
     ensures printed { Printed (K.faults sink.old) (K.faults sink.new) (K.taken sink.old) (K.taken sink.new) (all_memory (configuration machine.now) (line_count machine.now.setup)) result }
     ensures ready { IsReady line.new }
@@ -164,11 +160,7 @@ pub fn print_ending<K: Sink>(
 }
 
 /// Prints the events of a machine.
-fn print_journal<K: Sink>(
-    machine: &Machine,
-    sink: &mut K,
-    line: &mut Text,
-) -> Result<(), PutFailed>
+fn print_journal<K: Sink>(machine: &Machine, sink: &mut K, line: &mut Text) -> Result<(), PutFailed>
     requires ready { IsReady line.old }
     ensures printed { Printed (K.faults sink.old) (K.faults sink.new) (K.taken sink.old) (K.taken sink.new) (events_text machine.now.journal) result }
     ensures spelled { OnOk result (AllByRecursion InRange machine.now.journal) }
@@ -189,11 +181,7 @@ fn print_end<K: Sink>(sink: &mut K, line: &mut Text) -> Result<(), PutFailed>
 }
 
 /// Prints the run of a machine: its events, `end`, and the ending.
-pub fn print_run<K: Sink>(
-    machine: &Machine,
-    sink: &mut K,
-    line: &mut Text,
-) -> Result<(), PutFailed>
+pub fn print_run<K: Sink>(machine: &Machine, sink: &mut K, line: &mut Text) -> Result<(), PutFailed>
     requires ready { IsReady line.old }
     ensures printed { Printed (K.faults sink.old) (K.faults sink.new) (K.taken sink.old) (K.taken sink.new) (run_text machine.now.setup machine.now.journal (configuration machine.now)) result }
     // Each event has its line.

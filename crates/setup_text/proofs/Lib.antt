@@ -18,6 +18,11 @@ pub mod HeadLines
 pub mod BookFaults
 pub mod LineFaults
 pub mod BoardFaults
+pub mod BoardStops
+pub mod BoardRefused
+pub mod AddressFaults
+pub mod BodyFaults
+pub mod SetupFaults
 pub mod Writes
 pub mod WrittenWords
 pub mod WrittenTables

@@ -10,3 +10,5 @@ mod tables;
 mod tests;
 #[cfg(test)]
 mod traces;
+#[cfg(test)]
+mod turns;

@@ -1,4 +1,3 @@
-use Rattle.std.proofs.Common.{arith}
 use Rattle.backplane.proofs.Opening.{first-refused, accepted-more}
 use Rattle.backplane.proofs.assembling.accepted.Goals as goal
 

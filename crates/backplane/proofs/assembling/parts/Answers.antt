@@ -1,4 +1,4 @@
-use Rattle.std.proofs.Common.{◌≡◌, ◌∙◌, ap, sym, refl, subst, map, List, ℕ}
+use Rattle.std.proofs.Common.{◌∙◌, ap, sym, refl, subst, map, List}
 use Rattle.bus_model.specs.Setup.{BoardSpec}
 use Rattle.board.specs.Rack.{AllFit, empty_rack}
 use Rattle.backplane.proofs.Opening.{boards-fit, numbers-contest, parts-open}

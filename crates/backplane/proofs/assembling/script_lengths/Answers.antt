@@ -1,6 +1,6 @@
-use Rattle.std.proofs.Common.{◌≡◌, ◌<◌, ◌≤◌, ◌∙◌, ap, length, arith, sym, List}
+use Rattle.std.proofs.Common.{◌<◌, ap, length, arith, List}
 use Rattle.bus_model.specs.Setup.{BoardSpec}
-use Rattle.backplane.proofs.Opening.{lengths-more, lengths-all}
+use Rattle.backplane.proofs.Opening.{lengths-more}
 use Rattle.backplane.proofs.assembling.script_lengths.Goals as goal
 
 pub loop-place-preserved : goal.loop-place-preserved

@@ -2,8 +2,8 @@ use Rattle.std.proofs.Common.{◌≡◌, ◌+◌, ◌-◌, ◌≤◌, IfSome}
 use Rattle.fb_cli.specs.Opening.{HasRead}
 use Rattle.fb_cli.proofs.replaying.replay_file.Given as goal
 
-abbrev pub invariant-loop-piece : goal.invariant-loop-piece
-invariant-loop-piece g l = record {
+abbrev pub invariant-loop-taken : goal.invariant-loop-taken
+invariant-loop-taken g l = record {
   in_range : l.taken ≤ l.limit + 1;
   later : g.F.Shelf.faults l.fn.shelf ≤ g.F.Shelf.faults l.shelf;
   file : g.F.Shelf.file l.shelf ≡ g.F.Shelf.file l.fn.shelf;
@@ -11,5 +11,5 @@ invariant-loop-piece g l = record {
   read : IfSome (g.F.Shelf.file l.fn.shelf) (λ bytes_of. HasRead l.replay l.taken (bytes_of l.name) (g.F.Shelf.rest l.shelf));
 }
 
-abbrev pub decreases-loop-piece : goal.decreases-loop-piece
-decreases-loop-piece g l = l.limit + 1 - l.taken
+abbrev pub decreases-loop-taken : goal.decreases-loop-taken
+decreases-loop-taken g l = l.limit + 1 - l.taken

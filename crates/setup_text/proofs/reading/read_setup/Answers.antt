@@ -1,5 +1,5 @@
 use Rattle.setup_text.proofs.Setups.{is_spelled}
-use Rattle.setup_text.proofs.BoardFaults.{found_same}
+use Rattle.setup_text.proofs.SetupFaults.{is_first}
 use Rattle.setup_text.proofs.ReadAgain.{is_read, is_read_again}
 use Rattle.setup_text.proofs.reading.read_setup.Goals as goal
 
@@ -13,4 +13,4 @@ pub returns-clause-written : goal.returns-clause-written
 returns-clause-written c = is_read_again c.args.bytes.now c.setup.result c.setup.ensures
 
 pub returns-clause-first : goal.returns-clause-first
-returns-clause-first c = ?
+returns-clause-first c = is_first c.args.bytes.now (λ v. v) c.setup.result c.setup.ensures

@@ -1,4 +1,4 @@
-use Rattle.std.proofs.Common.{◌≡◌, ◌<◌, ◌-◌, ℕ, [], ap, sym, ◌∙◌, length, arith}
+use Rattle.std.proofs.Common.{◌≡◌, ◌-◌, ℕ, ap, ◌∙◌, length, arith}
 use Rattle.class_relation.specs.Rows.{rows}
 use Rattle.backplane.specs.Histories.{Histories, history_of}
 use Rattle.backplane.proofs.Listing.{read-row}

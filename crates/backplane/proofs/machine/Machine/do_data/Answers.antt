@@ -1,8 +1,6 @@
 use Rattle.std.proofs.Common.{◌≡◌, ℕ, ◌∙◌, ap, sym, subst, arith, [], ◌∷◌, ◌++◌}
 use Rattle.std.specs.Prelude.{vec_capacity}
-use Rattle.bus_model.specs.Configuration.{Connected}
 use Rattle.bus_model.specs.Events.{DataPhase, Carried}
-use Rattle.bus_model.specs.Steps.{Can}
 use Rattle.bus_model.specs.Places.{at_place}
 use Rattle.backplane.specs.Histories.{Histories, HistoriesKeep, kept}
 use Rattle.backplane.specs.Parts.{IsPartOf}

@@ -1,4 +1,4 @@
-use Rattle.std.proofs.Common.{◌≡◌, ◌∙◌, ◌<◌, ap, subst, sym, ℕ, List}
+use Rattle.std.proofs.Common.{◌∙◌, ◌<◌, ap, subst, sym, ℕ, List}
 use Rattle.std.specs.Prelude.{vec_capacity}
 use Rattle.bus_model.specs.Setup.{line_count}
 use Rattle.bus_model.specs.Configuration.{memory_line}

@@ -1,4 +1,4 @@
-use Rattle.std.proofs.Common.{◌≡◌, ◌∙◌, ap, sym, subst, length, arith}
+use Rattle.std.proofs.Common.{◌∙◌, ap, sym, subst}
 use Rattle.std.specs.Prelude.{vec_capacity}
 use Rattle.bus_model.specs.Configuration.{present_access}
 use Rattle.backplane.specs.Machine.{Machine, IsBoard, configuration, configuration_after}

@@ -1,5 +1,4 @@
-use Rattle.std.proofs.Common.{◌≡◌, ◌∙◌, ap, subst, sym, arith}
-use Rattle.std.specs.Prelude.{vec_capacity}
+use Rattle.std.proofs.Common.{◌∙◌, ap, subst, sym, arith}
 use Rattle.bus_model.specs.Entries.{entries, entries_of}
 use Rattle.backplane.specs.Machine.{Machine, IsBoard}
 use Rattle.backplane.proofs.Keeping.{history-is, history-there}

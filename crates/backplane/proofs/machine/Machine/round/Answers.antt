@@ -1,4 +1,4 @@
-use Rattle.std.proofs.Common.{List, ap, arith, length, sym, take, ℕ, ◌+◌, ◌∙◌, ◌≤◌, ◌≡◌}
+use Rattle.std.proofs.Common.{ap, arith, length, sym, take, ◌+◌, ◌∙◌, ◌≡◌}
 use Rattle.bus_model.specs.Setup.{board_places}
 use Rattle.bus_model.specs.Turns.{events_of_turns}
 use Rattle.backplane.specs.Machine.{Machine, configuration}

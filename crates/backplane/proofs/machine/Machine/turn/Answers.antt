@@ -1,9 +1,5 @@
-use Rattle.std.proofs.Common.{◌≡◌, ◌∙◌, ap, sym}
+use Rattle.std.proofs.Common.{◌∙◌, ap, sym}
 use Rattle.std.specs.Prelude.{vec_capacity}
-use Rattle.bus_model.specs.Events.{DataPhase}
-use Rattle.bus_model.specs.Carrying.{carried_of}
-use Rattle.bus_model.specs.Turns.{Did}
-use Rattle.backplane.specs.Machine.{configuration}
 use Rattle.backplane.specs.Moves.{told, moved}
 use Rattle.backplane.proofs.Moving.{own-connection, not-connected, known-of, connected-turn, turn-step}
 use Rattle.backplane.proofs.machine.Machine.turn.Goals as goal

@@ -1,7 +1,7 @@
-use Rattle.std.proofs.Common.{◌≡◌, ◌+◌, ◌<◌, ◌≤◌, ◌∙◌, ap, sym, length, arith, refl}
+use Rattle.std.proofs.Common.{◌<◌, ◌∙◌, ap, sym, length, arith, refl}
 use Rattle.std.specs.Prelude.{vec_capacity, is_some}
 use Rattle.backplane.proofs.Moving.{known-of}
-use Rattle.backplane.proofs.Reading.{first-unfinished, none-unfinished, all-before, complete-is, rack-boards, done-more, test_of}
+use Rattle.backplane.proofs.Reading.{first-unfinished, none-unfinished, all-before, complete-is, rack-boards}
 use Rattle.backplane.proofs.machine.Machine.unfinished.Goals as goal
 
 pub returns-then-is_some-clause-lowest : goal.returns-then-is_some-clause-lowest

@@ -17,8 +17,8 @@ returns-clause-shows c = λ setup x s.
     let p = c.args.self.now in
     let master : c.args.connected.now.master ≡ e.master = sym (ap (λ (d : Carried). d.master) c.transfer-carried.ensures.event) in
     let places =
-      c.complete_if.ensures ∙ ap (λ (t : Bool). cond t (change_place suc p.places.items c.args.connected.now.master) p.places.items) c.is_some-completes.ensures
-      ∙ ap (λ (b : ℕ). cond (is_some e.done) (change_place suc p.places.items b) p.places.items) master in
+    c.complete_if.ensures ∙ ap (λ (t : Bool). cond t (change_place suc p.places.items c.args.connected.now.master) p.places.items) c.is_some-completes.ensures
+    ∙ ap (λ (b : ℕ). cond (is_some e.done) (change_place suc p.places.items b) p.places.items) master in
     shown-data setup x p c.transfer-carried.new.rack c.transfer-carried.new.memory c.complete_if.new.places Idle e
     (ap (λ (r : Rack). r.tables) c.transfer-carried.ensures.rack) (ap (λ (r : Rack). r.specs) c.transfer-carried.ensures.rack)
     (c.transfer-carried.ensures.shows x (record { rack = s.rack; memory = s.memory }))

@@ -1,7 +1,6 @@
 use Rattle.std.proofs.Common.{◌∙◌, ap, arith}
-use Rattle.bus_model.specs.Events.{Answer, Transaction}
+use Rattle.bus_model.specs.Events.{Transaction}
 use Rattle.bus_model.specs.Configuration as model
-use Rattle.board.specs.Rack.{Rack}
 use Rattle.connect_phase.specs.Answering.{rack_answered}
 use Rattle.backplane.specs.declared.phase.Phase.TheVariants.{Connected}
 use Rattle.backplane.proofs.Counted.{spent-below, answered-fits}

@@ -1,6 +1,5 @@
 use Rattle.std.proofs.Common.{◌≡◌, true, sym, ap, ◌∙◌}
 use Rattle.bus_model.specs.Configuration.{is_raised}
-use Rattle.backplane.specs.declared.phase.Phase.{Phase}
 use Rattle.backplane.specs.Parts.{phase_of}
 use Rattle.backplane.proofs.Grants.{raised-shown, asks, waits-granted, waits-connected, grants-idle}
 use Rattle.backplane.proofs.parts.Parts.plan_request.Goals as goal

@@ -1,0 +1,131 @@
+//! Runs of one setup, their replays, and what fails on the way.
+
+use crate::{make_setup, plain, replay_file, top};
+use backplane::assemble;
+use fb_edge::{MemShelf, MemSink, OpenGate, SureShelf, SureSink};
+use setup_text::read_setup;
+use std::alloc::{AllocError, Global};
+use std::test::Fail;
+
+const SETUP: &str =
+    "memory 1\ntable un\nI read = I urd\nI write = I uwr\nI pass = I\nI flush = I\nend\n\
+    board 1 number 5 table un plain choose first\nwrite 2 7\nread 2\nend\n";
+
+const TRACE: &str =
+    "raise 1\ngrant 1 to 1 lines 5 rounds 0\nconnect 1 uwr line 0 to I answers none\n\
+    data 1 uwr line 0 from none into memory states 1=I done write 2 7\n\
+    raise 1\ngrant 1 to 1 lines 5 rounds 0\nconnect 1 urd line 0 to I answers none\n\
+    data 1 urd line 0 from memory into none states 1=I done read 2 = 7\nend\n";
+
+const ENDING: &str = "answer 1 2 2 7\nmemory 0 0 0 7 0\n";
+
+fn words(alloc: Global, text: &str) -> Result<Vec<String>, AllocError> {
+    let mut words = Vec::new(alloc);
+    for word in text.split(' ') {
+        words.push(String::from_str(alloc, word)?)?;
+    }
+    Ok(words)
+}
+
+/// The setup, an empty schedule and the trace, as F, S and T.
+fn files(alloc: Global) -> Result<Vec<(String, Vec<u8>)>, AllocError> {
+    let mut files = Vec::new(alloc);
+    for (name, text) in [("F", SETUP), ("S", ""), ("T", TRACE)] {
+        files.push((
+            String::from_str(alloc, name)?,
+            text.as_bytes().to_vec(alloc)?,
+        ))?;
+    }
+    Ok(files)
+}
+
+/// What the words print, and the status.
+fn said(rt: &HostRuntime, text: &str) -> Result<(Vec<u8>, u8), Fail> {
+    let alloc = rt.alloc();
+    let mut shelf = SureShelf::new(files(alloc)?);
+    let mut sink = MemSink::new(alloc, 2000, 7, Vec::new(alloc))?;
+    let status = top(
+        alloc,
+        &words(alloc, text)?,
+        &mut shelf,
+        &mut sink,
+        &OpenGate,
+    );
+    Ok((sink.taken().to_vec(alloc)?, status))
+}
+
+#[test]
+fn runs_are_printed_and_replayed(rt: HostRuntime) -> Result<(), Fail> {
+    let alloc = rt.alloc();
+    let mut whole = String::from_str(alloc, TRACE)?;
+    whole.push_str(ENDING)?;
+    let rows = [
+        ("show F", SETUP, 0),
+        ("run F S", whole.as_str(), 0),
+        ("run F seed 3", whole.as_str(), 0),
+        ("replay F T", ENDING, 0),
+        ("replay F S", "fault trace unfinished 1\n", 1),
+        ("replay F F", "fault trace line 1 spelling\n", 1),
+        ("run F F", "fault schedule line 1 number\n", 3),
+    ];
+    for (text, want, status) in rows {
+        let (printed, ended) = said(&rt, text)?;
+        assert_eq!(rt; printed.as_slice(), want.as_bytes(), "{text}");
+        assert_eq!(rt; ended, status, "{text}");
+    }
+    Ok(())
+}
+
+/// Each call of the shelf fails in turn, until there is no such call.
+#[test]
+fn each_read_may_fail(rt: HostRuntime) -> Result<(), Fail> {
+    let alloc = rt.alloc();
+    let replay = words(alloc, "replay F T")?;
+    for call in 1..7u64 {
+        let mut failing = Vec::new(alloc);
+        failing.push(call)?;
+        let mut shelf = MemShelf::new(files(alloc)?, failing);
+        let mut sink = MemSink::new(alloc, 100, 100, Vec::new(alloc))?;
+        let status = plain(alloc, &replay, &mut shelf, &mut sink);
+        let want = match call {
+            1..=3 => "fault read setup\n",
+            _ => "fault read trace\n",
+        };
+        assert_eq!(rt; status, 4, "call {call}");
+        assert_eq!(rt; sink.taken(), want.as_bytes(), "call {call}");
+    }
+    Ok(())
+}
+
+#[test]
+fn a_file_is_replayed(rt: HostRuntime) -> Result<(), Fail> {
+    let alloc = rt.alloc();
+    let Ok(setup) = read_setup(alloc, SETUP.as_bytes()) else {
+        return Err(Fail::from("no setup"));
+    };
+    let Ok(machine) = assemble(alloc, setup) else {
+        return Err(Fail::from("no machine"));
+    };
+    let mut shelf = SureShelf::new(files(alloc)?);
+    let Ok(machine) = replay_file(machine, &mut shelf, "T", 1000) else {
+        return Err(Fail::from("no replay"));
+    };
+    assert_eq!(rt; machine.journal().len(), 8);
+    Ok(())
+}
+
+#[test]
+fn setups_are_generated(rt: HostRuntime) -> Result<(), Fail> {
+    let alloc = rt.alloc();
+    let setup = make_setup(alloc, 7)?;
+    assert_eq!(rt; setup.accesses(), 100_000);
+    let mut shelf = SureShelf::new(Vec::new(alloc));
+    let status = plain(
+        alloc,
+        &words(alloc, "make 7")?,
+        &mut shelf,
+        &mut SureSink::new(),
+    );
+    assert_eq!(rt; status, 0);
+    Ok(())
+}
