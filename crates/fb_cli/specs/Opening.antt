@@ -1,5 +1,5 @@
 -- What the steps of a command come to: what was read, or the reply with which the command stops.
-use Rattle.std.specs.Prelude.{◌≡◌, ℕ, ◌+◌, ◌≤◌, ◌<◌, List, length, Result, Ok, Err, Option, Some, IfSome}
+use Rattle.std.specs.Prelude.{◌≡◌, ℕ, ◌+◌, ◌≤◌, ◌<◌, ◌++◌, List, length, Result, Ok, Err, Option, Some, IfSome}
 use Rattle.std.specs.Io.KnownBytes.{Consumes}
 use Rattle.fb_text.specs.Unread.{unread}
 use Rattle.setup_text.specs.declared.fault.SetupFault.{SetupFault}
@@ -101,9 +101,19 @@ FinishedAs replay (Err trace_faults.Failed) = ⊥
 FinishedAs replay (Err (trace_faults.TooLong taken)) = ⊥
 FinishedAs replay (Err (trace_faults.Trace fault)) = (text : List ℕ) → StandsFor replay text → replayed (opened replay.setup) text ≡ Err fault
 
--- A replay has read so many bytes of a file, of which these are left.
-pub record HasRead (replay : Replaying) (taken : ℕ) (bytes : List ℕ) (rest : Option (List ℕ)) : Type 0 where
+-- A replay was fed with these bytes.
+abbrev pub FedWith : Replaying → List ℕ → Replaying → Type 0
+FedWith before bytes now = (text : List ℕ) → StandsFor before text → StandsFor now (text ++ bytes)
+
+-- A replay was fed with so many bytes of these, of which the rest is left.
+pub record HasRead (before now : Replaying) (taken : ℕ) (bytes : List ℕ) (rest : Option (List ℕ)) : Type 0 where
   pub text : List ℕ
-  pub stands : StandsFor replay text
+  pub fed : FedWith before text now
   pub consumed : Consumes (Some bytes) rest text
   pub counted : length text ≡ taken
+
+-- Why a replay was not fed with all of a started file: the shelf failed, or there are more bytes than the limit.
+abbrev pub FeedCause : Option (List ℕ) → ℕ → Type 0 → TraceFileFault → Type 0
+FeedCause rest limit shelf_rose trace_faults.Failed = shelf_rose
+FeedCause rest limit shelf_rose (trace_faults.TooLong taken) = (taken ≡ limit + 1) × IfSome rest (λ bytes. limit < length bytes)
+FeedCause rest limit shelf_rose (trace_faults.Trace fault) = ⊥

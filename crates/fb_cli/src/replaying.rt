@@ -1,12 +1,12 @@
 //! `replay`: a trace replayed on a setup, read piece by piece.
 
-ghost use Rattle.std.specs.Prelude.{◌≡◌, ◌≤◌, ◌<◌, ◌^◌, [], true, Ok, Err, length, IfOk, IfErr, IfSome};
+ghost use Rattle.std.specs.Prelude.{◌≡◌, ◌≤◌, ◌<◌, ◌^◌, [], true, Ok, Err, length, IfOk, IfErr, IfSome, OnOk};
 ghost use Rattle.std.specs.List.{list_all};
 ghost use Rattle.fb_edge.specs.Outside.{Rose};
 ghost use Rattle.fb_cli.specs.Report.{is_accepted};
 ghost use Rattle.fb_cli.specs.Output.{limit_of, replay_output, trace_output, traced_output};
 ghost use Rattle.fb_cli.specs.Answers.{answer_output};
-ghost use Rattle.fb_cli.specs.Opening.{FinishedAs, Gives, IsReplayed, IsUnread, OfFile, ReplayUnread, TraceCause};
+ghost use Rattle.fb_cli.specs.Opening.{FedWith, FeedCause, FinishedAs, Gives, IsReplayed, IsUnread, OfFile, ReplayUnread, TraceCause};
 
 use crate::answers::{Answer, Refusal, Reply, long_answer, trace_answer};
 use crate::opening::{limit_of, open_setup};
@@ -45,6 +45,36 @@ fn finish(replay: Replay) -> Result<Machine, TraceFileFault>
     }
 }
 
+/// Feeds a replay with the file that was started, to its end.
+fn feed_all<F: Shelf>(
+    replay: &mut Replay,
+    shelf: &mut F,
+    limit: u64,
+) -> Result<(), TraceFileFault>
+    requires limit { limit < 2 ^ 63 }
+    ensures setup { replay.new.setup ≡ replay.old.setup }
+    ensures fed { OnOk result (IfSome (F.rest shelf.old) (λ bytes. (length bytes ≤ limit) × FedWith replay.old bytes replay.new)) }
+    ensures fault { IfErr result (FeedCause (F.rest shelf.old) limit (Rose (F.faults shelf.old) (F.faults shelf.new))) }
+    ensures later { F.faults shelf.old ≤ F.faults shelf.new }
+    ensures file { F.file shelf.new ≡ F.file shelf.old }
+{
+    let mut piece = [0u8; PIECE];
+    let mut taken = 0;
+    while taken <= limit {
+        let room = limit - taken + 1;
+        let want = room.min(PIECE as u64) as usize;
+        let Ok(count) = shelf.next(&mut piece[..want]) else {
+            return Err(TraceFileFault::Failed);
+        };
+        if count == 0 {
+            return Ok(());
+        }
+        replay.feed(&piece[..count]);
+        taken += count as u64;
+    }
+    Err(TraceFileFault::TooLong { taken })
+}
+
 /// Replays the trace of a file on a machine at its opening. It takes no memory.
 pub fn replay_file<F: Shelf>(
     machine: Machine,
@@ -63,21 +93,10 @@ pub fn replay_file<F: Shelf>(
         return Err(TraceFileFault::Failed);
     }
     let mut replay = Replay::start(machine);
-    let mut piece = [0u8; PIECE];
-    let mut taken = 0;
-    while taken <= limit {
-        let room = limit - taken + 1;
-        let want = room.min(PIECE as u64) as usize;
-        let Ok(count) = shelf.next(&mut piece[..want]) else {
-            return Err(TraceFileFault::Failed);
-        };
-        if count == 0 {
-            return finish(replay);
-        }
-        replay.feed(&piece[..count]);
-        taken += count as u64;
+    match feed_all(&mut replay, shelf, limit) {
+        Ok(()) => finish(replay),
+        Err(fault) => Err(fault),
     }
-    Err(TraceFileFault::TooLong { taken })
 }
 
 /// The ending of the run of a file's trace on a machine at its opening.

@@ -2,3 +2,4 @@ pub mod Stepping
 pub mod Reading
 pub mod Tracing
 pub mod Saying
+pub mod Only

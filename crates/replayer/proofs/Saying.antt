@@ -1,13 +1,12 @@
 -- What the answers of a replay say of runs.
-use Rattle.std.proofs.Common.{◌≡◌, ℕ, ◌+◌, Bool, true, false, List, [], ◌∷◌, ◌++◌, Option, Some, None, length, refl, sym, ap, ◌∙◌, arith, append-nil, subst}
+use Rattle.std.proofs.Common.{◌≡◌, ℕ, List, [], ◌∷◌, Option, Some, None, refl, sym, ap, ◌∙◌, arith, append-nil, subst}
 use Rattle.std.specs.Prelude.{Result, Ok, Err, find, is_some, IfOk}
-use Rattle.std.specs.List.{AllByRecursion}
 use Rattle.trace_text.specs.Ranges.{InRange}
 use Rattle.trace_text.specs.Spelling.{text_of_event}
 use Rattle.bus_model.specs.Setup.{Setup, board_places}
 use Rattle.bus_model.specs.Events.{Event}
 use Rattle.bus_model.specs.Configuration.{present_access}
-use Rattle.bus_model.specs.Runs.{Run, Complete}
+use Rattle.bus_model.specs.Runs.{Complete}
 use Rattle.backplane.specs.Machine.{Machine, configuration, configuration_after, opened}
 use Rattle.trace_lines.specs.declared.fault.ReplayFault.{ReplayFault}
 use Rattle.trace_lines.specs.declared.fault.ReplayFault.TheVariants.{Spelling, NotARun, Unfinished}
@@ -15,10 +14,10 @@ use Rattle.trace_lines.specs.Lines.{Line, closed_line, event_of, event_lines}
 use Rattle.trace_lines.specs.Replaying.{outcome}
 use Rattle.trace_lines.proofs.Meanings.{event_spelled}
 use Rattle.replayer.specs.Replaying.{step, lowest_unfinished, accepted, close}
-use Rattle.replayer.specs.Runs.{BeginWithRun, AreCompleteRun, IsMisspelled, IsNoStep, IsUnfinished, Says, Accepts}
-use Rattle.replayer.proofs.Tracing.{after_events, MayAll, Begin, Misspelled, NoStep, Closed, Traced, line_is, traced, traced_all, after_is, leads_of, may_of}
+use Rattle.replayer.specs.Runs.{BeginWithRun, AreCompleteRun, Says, Accepts}
+use Rattle.replayer.proofs.Tracing.{after_events, Begin, Traced, line_is, traced, traced_all, after_is, leads_of, may_of}
 
-after_opened : (setup : Setup) (events : List Event) → after_events (opened setup) events ≡ record { setup = setup; journal = events }
+pub after_opened : (setup : Setup) (events : List Event) → after_events (opened setup) events ≡ record { setup = setup; journal = events }
 after_opened setup events = after_is (opened setup) events
 
 begins : (setup : Setup) (lines : List Line) (events : List Event) (rest : List Line) → Begin (opened setup) lines events rest → BeginWithRun setup lines events rest

@@ -1,9 +1,9 @@
 -- The step that a machine makes of an event.
-use Rattle.std.proofs.Common.{◌≡◌, ℕ, ◌+◌, ◌⊎◌, inl, inr, List, [], ◌∷◌, ◌++◌, Option, Some, None, length, refl, sym, ap, ◌∙◌, arith, length-append}
+use Rattle.std.proofs.Common.{◌≡◌, ℕ, ◌+◌, ◌⊎◌, inl, inr, [], ◌∷◌, Option, Some, None, refl, sym, ap, ◌∙◌, arith, length-append}
 use Rattle.bus_model.specs.Events.{Event}
 use Rattle.backplane.specs.Machine.{Machine, configuration, happened, MayHappen}
 use Rattle.trace_lines.specs.declared.fault.ReplayFault.TheVariants.{NotARun}
-use Rattle.trace_lines.specs.Replaying.{Place, reading, refused, by_step}
+use Rattle.trace_lines.specs.Replaying.{reading, refused, by_step}
 use Rattle.step_test.proofs.Steps.{decided}
 use Rattle.replayer.specs.declared.stage.Stage.TheVariants.{Reading, Refused}
 use Rattle.replayer.specs.Replaying.{step, stepped}

@@ -4,12 +4,11 @@ use Rattle.std.specs.Prelude.{Result, Ok, Err, if◌then◌else◌}
 use Rattle.std.specs.List.{AllByRecursion}
 use Rattle.trace_text.specs.Ranges.{InRange}
 use Rattle.trace_text.specs.Spelling.{text_of_event}
-use Rattle.bus_model.specs.Setup.{Setup}
 use Rattle.bus_model.specs.Events.{Event}
 use Rattle.bus_model.specs.Configuration.{Configuration, opening}
-use Rattle.bus_model.specs.Steps.{Can, after}
-use Rattle.bus_model.specs.Runs.{Leads, Run, after_all}
-use Rattle.backplane.specs.Machine.{Machine, configuration, configuration_after, happened, opened, MayHappen}
+use Rattle.bus_model.specs.Steps.{after}
+use Rattle.bus_model.specs.Runs.{Leads, after_all}
+use Rattle.backplane.specs.Machine.{Machine, configuration, happened, MayHappen}
 use Rattle.trace_lines.specs.declared.fault.ReplayFault.{ReplayFault}
 use Rattle.trace_lines.specs.declared.fault.ReplayFault.TheVariants.{Spelling, NotARun, Unfinished}
 use Rattle.trace_lines.specs.Lines.{Line, closed_line, event_in, event_of, event_lines}

@@ -52,3 +52,7 @@ Says setup lines (Err (Unfinished board)) = (events : List Event) × IsUnfinishe
 -- An answer accepts each complete run of a setup whose lines these are.
 abbrev pub Accepts : Setup → List Line → Result Machine ReplayFault → Type 0
 Accepts setup lines answer = (events : List Event) → AreCompleteRun setup lines events → answer ≡ Ok (record { setup = setup; journal = events })
+
+-- No other answer says what holds of these lines and of the runs of a setup.
+abbrev pub IsOnlyAnswer : Setup → List Line → Result Machine ReplayFault → Type 0
+IsOnlyAnswer setup lines answer = (other : Result Machine ReplayFault) → Says setup lines other → other ≡ answer

@@ -7,7 +7,7 @@ ghost use Rattle.trace_lines.specs.Lines.{trace_of};
 ghost use Rattle.trace_lines.specs.Reader.{LacksFeed};
 ghost use Rattle.trace_lines.specs.Replaying.{fed, ending};
 ghost use Rattle.replayer.specs.Replaying.{step, close, replayed};
-ghost use Rattle.replayer.specs.Runs.{Says, Accepts};
+ghost use Rattle.replayer.specs.Runs.{Says, Accepts, IsOnlyAnswer};
 ghost use Rattle.replayer.specs.Standing.{StandsFor, IsReading};
 
 use crate::stage::Stage;
@@ -59,6 +59,7 @@ impl Replay {
         ensures replayed { (text : List ℕ) → StandsFor self text → result ≡ replayed (opened self.setup) text }
         ensures says { (text : List ℕ) → StandsFor self text → Says self.setup (trace_of text) result }
         ensures accepts { (text : List ℕ) → StandsFor self text → Accepts self.setup (trace_of text) result }
+        ensures only { (text : List ℕ) → StandsFor self text → IsOnlyAnswer self.setup (trace_of text) result }
     {
         self.answer()
     }

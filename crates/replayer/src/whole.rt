@@ -3,7 +3,7 @@
 ghost use Rattle.std.specs.Prelude.{◌≡◌, []};
 ghost use Rattle.trace_lines.specs.Lines.{trace_of};
 ghost use Rattle.replayer.specs.Replaying.{replayed};
-ghost use Rattle.replayer.specs.Runs.{Says, Accepts};
+ghost use Rattle.replayer.specs.Runs.{Says, Accepts, IsOnlyAnswer};
 
 use crate::pieces::Replay;
 use backplane::Machine;
@@ -16,6 +16,7 @@ pub fn replay(machine: Machine, trace: &[u8]) -> Result<Machine, ReplayFault>
     ensures replayed { result ≡ replayed machine trace.now }
     ensures says { Says machine.setup (trace_of trace.now) result }
     ensures accepts { Accepts machine.setup (trace_of trace.now) result }
+    ensures only { IsOnlyAnswer machine.setup (trace_of trace.now) result }
 {
     let mut replay = Replay::start(machine);
     replay.feed(trace);

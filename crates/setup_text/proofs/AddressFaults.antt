@@ -1,15 +1,15 @@
 -- Where lines of words and of accesses stop.
-use Rattle.std.proofs.Common.{◌≡◌, ℕ, ◌+◌, ◌<◌, ◌≤◌, ◌^◌, ◌⊎◌, inl, inr, Bool, true, false, cond, ltb, List, [], ◌∷◌, ◌++◌, length, Option, Some, None, Result, Ok, Err, refl, sym, ap, subst, ◌∙◌, arith}
-use Rattle.std.specs.Prelude.{codes, decimal}
-use Rattle.std.proofs.lemmas.Bool.{ltb-true, ltb-false}
+use Rattle.std.proofs.Common.{◌≡◌, ℕ, ◌<◌, ◌≤◌, ◌^◌, Bool, true, false, cond, ltb, List, [], ◌∷◌, ◌++◌, length, Some, Result, Ok, Err, refl, sym, ap, subst, ◌∙◌, arith}
+use Rattle.std.specs.Prelude.{decimal}
+use Rattle.std.proofs.lemmas.Bool.{ltb-false}
 use Rattle.fb_text.specs.Places.{Words, Place}
 use Rattle.table_text.specs.Reading.{◌>>=◌}
 use Rattle.setup_text.specs.declared.fault.SetupKind.{SetupKind}
 use Rattle.setup_text.specs.declared.fault.SetupKind.TheVariants.{UnknownWord, Number, Address}
-use Rattle.setup_text.specs.Spelling.{SetupText, open_rows}
+use Rattle.setup_text.specs.Spelling.{SetupText}
 use Rattle.setup_text.specs.Values.{setup_of}
 use Rattle.setup_text.specs.Standing.{StandsSoFar}
-use Rattle.setup_text.specs.Grammars.{Slot, other, address, value, slot_of, wants_number, JudgedAs, JudgedAddress, unfit_word, unfit_end}
+use Rattle.setup_text.specs.Grammars.{Slot, other, address, value, slot_of, wants_number, JudgedAs, JudgedAddress, unfit_word}
 use Rattle.setup_text.specs.Reading.{number_at, line_ends, in_memory, address_at, address_line, value_line}
 use Rattle.setup_text.proofs.LineWords.{number_read, address_read, address_line_read, value_line_read}
 use Rattle.setup_text.proofs.Follows.{Follows}
@@ -106,7 +106,7 @@ module _ (s : SetupText) (h : StandsSoFar s) (rest : List Place) (line : ℕ) wh
       one_passes ws a e = let read = address_line_read (bound_of s) ws a e in subst (λ (x : Words). FreeHere s (v ∷ x)) (sym read.0) (free_addr a read.2 read.1)
 
     module _ (next : (x : List ℕ) → slot_of (v ∷ x ∷ []) ≡ value) (last : (x y : List ℕ) → slot_of (v ∷ x ∷ y ∷ []) ≡ other) (begins_value : (x y : ℕ) → x < 2 ^ 32 → y < 2 ^ 32 → Begins s (v ∷ decimal x ∷ decimal y ∷ []))
-      (expects : (t : Words) (others : List Words) → Follows s (v ∷ t) others → (x : ℕ) × (y : ℕ) × (x < 2 ^ 32) × (y < 2 ^ 32) × (t ≡ decimal x ∷ decimal y ∷ [])) where
+        (expects : (t : Words) (others : List Words) → Follows s (v ∷ t) others → (x : ℕ) × (y : ℕ) × (x < 2 ^ 32) × (y < 2 ^ 32) × (t ≡ decimal x ∷ decimal y ∷ [])) where
       first_expected : (t : Words) (others : List Words) → Follows s (v ∷ t) others → NumberTail 0 4294967295 t
       first_expected t others f = let e = expects t others f in let low = e.2 in (e.0, decimal e.1 ∷ [], e.4, omega arith, omega arith)
 

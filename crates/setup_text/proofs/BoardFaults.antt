@@ -1,12 +1,11 @@
 -- The first fault of a board line.
-use Rattle.std.proofs.Common.{◌≡◌, ◌≢◌, ℕ, zero, suc, ◌+◌, ◌*◌, ◌<◌, ◌≤◌, ◌^◌, ◌⊎◌, inl, inr, Bool, true, false, cond, not, ◌||◌, ltb, eqb, List, [], ◌∷◌, ◌++◌, map, length, get_or, drop, Option, Some, None, Result, Ok, Err, refl, sym, ap, subst, ◌∙◌, append_assoc, arith, Contains, AllPairs}
+use Rattle.std.proofs.Common.{◌≡◌, ◌≢◌, ℕ, zero, suc, ◌<◌, ◌≤◌, ◌^◌, ◌⊎◌, inl, inr, Bool, true, false, not, ◌||◌, eqb, List, [], ◌∷◌, ◌++◌, map, length, get_or, drop, Option, Some, None, refl, sym, ap, ◌∙◌, arith, Contains, AllPairs}
 use Rattle.std.specs.Prelude.{codes, decimal}
 use Rattle.std.specs.Str.{bytes_eq}
-use Rattle.std.proofs.lemmas.Bool.{ltb-true, ltb-false, eqb-true, eqb-false}
-use Rattle.std.proofs.lemmas.List.{append-nil, length-map, get_or-map}
+use Rattle.std.proofs.lemmas.Bool.{eqb-true}
+use Rattle.std.proofs.lemmas.List.{length-map, get_or-map}
 use Rattle.std.proofs.lemmas.Slice.Eq.{bytes_eq-Decides}
-use Rattle.fb_text.specs.Places.{Words, Place}
-use Rattle.fb_text.proofs.LineItems.{from}
+use Rattle.fb_text.specs.Places.{Words}
 use Rattle.moesi_state.specs.declared.State.{State}
 use Rattle.moesi_state.specs.declared.State.TheVariants.{M, O, E, S, I}
 use Rattle.class_relation.specs.Names.{is_name}
@@ -16,24 +15,15 @@ use Rattle.table_check.specs.declared.boards.Choose.{Choose}
 use Rattle.table_check.specs.declared.boards.Choose.TheVariants.{First, Round, Seed}
 use Rattle.table_check.specs.declared.boards.Shape.{Shape}
 use Rattle.table_check.specs.declared.boards.Shape.TheVariants.{Plain, Cached}
-use Rattle.table_check.specs.Reached.{Reached, is_reached}
-use Rattle.table_check.proofs.Reaching.{reached-test, test-reached}
-use Rattle.table_check.specs.Setup.{Setup}
-use Rattle.table_text.specs.Reading.{◌>>=◌}
-use Rattle.setup_text.specs.declared.fault.LimitOf.TheVariants.{Boards, Frames}
-use Rattle.setup_text.specs.declared.fault.SetupKind.{SetupKind}
-use Rattle.setup_text.specs.declared.fault.SetupKind.TheVariants.{UnknownWord, Number, TwiceNumber, NoTable, NoFrames, Limit}
+use Rattle.table_check.specs.Reached.{is_reached}
 use Rattle.setup_text.specs.Spelling.{BoardText, SetupText, board_row, shape_words, choose_words, open_rows, ShapeFits, ChooseFits, BoardFits}
-use Rattle.setup_text.specs.Values.{names_of, setup_of}
 use Rattle.setup_text.specs.Standing.{StandsSoFar}
-use Rattle.setup_text.specs.Grammars.{slot_of, unfit_word, unfit_end, last_word, JudgedAs, JudgedShape, JudgedNumber}
-use Rattle.setup_text.specs.Drafts.{named, further, found_name, stays_invalid, IsShape}
-use Rattle.setup_text.specs.Reading.{number_at, number_from_one, this_word, line_ends, name_at, next_place, place_at, has_number, new_number, board_number_at, known_name, table_name_at, board_front, board_table, board_back, board_spec, board_line, choose_at, seeded, framed, frames_at, shape_at}
-use Rattle.setup_text.proofs.LineWords.{number_read, from_one_read, word_read, name_read, choose_read, shape_read, is_word}
+use Rattle.setup_text.specs.Drafts.{named, further, found_name, stays_invalid}
+use Rattle.setup_text.specs.Reading.{has_number}
+use Rattle.setup_text.proofs.LineWords.{is_word}
 use Rattle.setup_text.proofs.Growing.{number_new}
-use Rattle.setup_text.proofs.HeadLines.{found_contains, none_contains}
 use Rattle.setup_text.proofs.Follows.{Follows, next_board, begins_by}
-use Rattle.setup_text.proofs.LineFaults.{decimal_same, FreeHere, free_nil, free_push, board_is_free, Begins, Faulty, unfit_at, judged_at, Refused, NumberTail, WordTail, NameTail, EndTail, number_refused, from_one_refused, word_refused, end_refused, name_refused, refused_at, only_board, no_row, differ}
+use Rattle.setup_text.proofs.LineFaults.{Begins, NumberTail, WordTail, NameTail, EndTail, only_board, no_row}
 
 -- ---- tables by name
 

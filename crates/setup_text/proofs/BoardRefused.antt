@@ -1,24 +1,23 @@
 -- Where a board line is refused, and that one that is read fails no side condition.
-use Rattle.std.proofs.Common.{◌≡◌, ◌≢◌, ℕ, ◌+◌, ◌<◌, ◌≤◌, ◌^◌, ◌⊎◌, inl, inr, Bool, true, false, cond, ltb, eqb, List, [], ◌∷◌, ◌++◌, map, length, Option, Some, None, Result, Ok, Err, refl, sym, ap, subst, ◌∙◌, arith}
+use Rattle.std.proofs.Common.{◌≡◌, ◌≢◌, ℕ, ◌+◌, ◌<◌, ◌≤◌, inl, inr, Bool, true, false, cond, ltb, eqb, List, [], ◌∷◌, ◌++◌, length, Result, Ok, Err, refl, sym, ap, subst, ◌∙◌, arith}
 use Rattle.std.specs.Prelude.{codes, decimal}
 use Rattle.std.proofs.lemmas.Bool.{ltb-true, ltb-false, eqb-true, eqb-false}
 use Rattle.fb_text.specs.Places.{Words, Place}
 use Rattle.table_check.specs.declared.boards.BoardSpec.{BoardSpec}
-use Rattle.table_check.specs.Setup.{Setup}
 use Rattle.table_text.specs.Reading.{◌>>=◌}
 use Rattle.setup_text.specs.declared.fault.LimitOf.TheVariants.{Boards}
 use Rattle.setup_text.specs.declared.fault.SetupKind.{SetupKind}
-use Rattle.setup_text.specs.declared.fault.SetupKind.TheVariants.{UnknownWord, Number, Limit}
+use Rattle.setup_text.specs.declared.fault.SetupKind.TheVariants.{Number, Limit}
 use Rattle.setup_text.specs.Spelling.{SetupText, open_rows, end_row, shape_words, choose_words}
 use Rattle.setup_text.specs.Values.{setup_of}
 use Rattle.setup_text.specs.Standing.{StandsSoFar}
 use Rattle.setup_text.specs.Drafts.{with_board}
 use Rattle.setup_text.specs.Reading.{Mode, body, number_at, number_from_one, this_word, next_place, place_at, new_number, board_number_at, board_front, board_table, board_back, board_spec, board_line, board_added, shape_at}
-use Rattle.setup_text.proofs.LineWords.{Binds, binds, passes, number_read, ReadsFront, front_read, ReadsTable, table_read, shape_read, back_read}
+use Rattle.setup_text.proofs.LineWords.{binds, passes, number_read, front_read, table_read, shape_read, back_read}
 use Rattle.setup_text.proofs.Follows.{next_end, begins_by}
-use Rattle.setup_text.proofs.LineFaults.{decimal_same, FreeHere, free_nil, Begins, Faulty, judged_at, Refused, NumberTail, number_refused, refused_at}
-use Rattle.setup_text.proofs.BoardFaults.{b1, b2, b6, begins_place, begins_word, expects_place}
-use Rattle.setup_text.proofs.BoardStops.{boards_of, tabled_by, Fresh, free_1, board_free, table_stops, word_stops}
+use Rattle.setup_text.proofs.LineFaults.{decimal_same, FreeHere, free_nil, Faulty, judged_at, Refused, NumberTail, number_refused, refused_at}
+use Rattle.setup_text.proofs.BoardFaults.{b1, begins_place, begins_word, expects_place}
+use Rattle.setup_text.proofs.BoardStops.{boards_of, Fresh, free_1, board_free, table_stops, word_stops}
 
 place_read : (boards : ℕ) (ws us : Words) → place_at boards ws ≡ Ok us → ws ≡ decimal (boards + 1) ∷ us
 unfolding place_at

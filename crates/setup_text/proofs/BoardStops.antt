@@ -1,11 +1,10 @@
 -- Where a board line stops.
-use Rattle.std.proofs.Common.{◌≡◌, ◌≢◌, ℕ, zero, suc, ◌+◌, ◌*◌, ◌<◌, ◌≤◌, ◌^◌, ◌⊎◌, inl, inr, Bool, true, false, cond, ltb, eqb, List, [], ◌∷◌, ◌++◌, map, length, drop, Option, Some, None, Result, Ok, Err, refl, sym, ap, subst, ◌∙◌, append_assoc, arith, Contains}
+use Rattle.std.proofs.Common.{◌≡◌, ℕ, ◌+◌, ◌*◌, ◌<◌, ◌≤◌, ◌^◌, inl, inr, Bool, true, false, cond, ltb, List, [], ◌∷◌, ◌++◌, map, length, Option, Some, None, Result, Ok, Err, refl, sym, ap, subst, ◌∙◌, append_assoc, arith, Contains}
 use Rattle.std.specs.Prelude.{codes, decimal}
 use Rattle.std.specs.Str.{bytes_eq}
-use Rattle.std.proofs.lemmas.Bool.{ltb-true, ltb-false, eqb-true, eqb-false}
+use Rattle.std.proofs.lemmas.Bool.{ltb-true}
 use Rattle.std.proofs.lemmas.List.{append-nil}
 use Rattle.fb_text.specs.Places.{Words, Place}
-use Rattle.fb_text.proofs.LineItems.{from}
 use Rattle.class_relation.specs.Names.{is_name}
 use Rattle.table_check.specs.declared.boards.BoardSpec.{BoardSpec}
 use Rattle.table_check.specs.declared.boards.Choose.{Choose}
@@ -13,22 +12,21 @@ use Rattle.table_check.specs.declared.boards.Choose.TheVariants.{First, Round, S
 use Rattle.table_check.specs.declared.boards.Shape.{Shape}
 use Rattle.table_check.specs.declared.boards.Shape.TheVariants.{Plain, Cached}
 use Rattle.table_check.proofs.Reaching.{reached-test, test-reached}
-use Rattle.table_check.specs.Setup.{Setup}
 use Rattle.table_text.specs.Reading.{◌>>=◌}
-use Rattle.setup_text.specs.declared.fault.LimitOf.TheVariants.{Boards, Frames}
+use Rattle.setup_text.specs.declared.fault.LimitOf.TheVariants.{Frames}
 use Rattle.setup_text.specs.declared.fault.SetupKind.{SetupKind}
 use Rattle.setup_text.specs.declared.fault.SetupKind.TheVariants.{UnknownWord, Number, TwiceNumber, NoTable, NoFrames, Limit}
-use Rattle.setup_text.specs.Spelling.{BoardText, SetupText, board_row, shape_words, choose_words, open_rows, end_row, ShapeFits, ChooseFits, BoardFits}
-use Rattle.setup_text.specs.Values.{names_of, setup_of}
+use Rattle.setup_text.specs.Spelling.{SetupText, shape_words, choose_words, ShapeFits, ChooseFits}
+use Rattle.setup_text.specs.Values.{setup_of}
 use Rattle.setup_text.specs.Standing.{StandsSoFar}
 use Rattle.setup_text.specs.Grammars.{slot_of, JudgedAs, JudgedShape, JudgedNumber, unfit_word, unfit_end}
-use Rattle.setup_text.specs.Drafts.{named, found_name, stays_invalid, IsShape}
-use Rattle.setup_text.specs.Reading.{number_at, number_from_one, from_one, this_word, line_ends, name_at, next_place, place_at, has_number, new_number, board_number_at, known_name, table_name_at, board_front, board_table, board_back, board_spec, board_line, choose_at, seeded, framed, frames_at, shape_at}
-use Rattle.setup_text.proofs.LineWords.{number_read, from_one_read, word_read, name_read, choose_read, shape_read, is_word, word_itself}
+use Rattle.setup_text.specs.Drafts.{named, found_name, IsShape}
+use Rattle.setup_text.specs.Reading.{number_at, number_from_one, this_word, line_ends, name_at, has_number, new_number, known_name, table_name_at, board_table, board_back, board_spec, choose_at, seeded, framed, frames_at, shape_at}
+use Rattle.setup_text.proofs.LineWords.{from_one_read, word_read, name_read, choose_read, shape_read, is_word}
 use Rattle.setup_text.proofs.HeadLines.{found_contains, none_contains}
-use Rattle.setup_text.proofs.Follows.{Follows, next_end, begins_by}
-use Rattle.setup_text.proofs.LineFaults.{decimal_same, FreeHere, free_nil, free_push, board_is_free, Begins, Faulty, unfit_at, judged_at, Refused, NumberTail, WordTail, NameTail, EndTail, number_refused, from_one_refused, word_refused, end_refused, name_refused, refused_at, differ}
-use Rattle.setup_text.proofs.BoardFaults.{found_table, found_same, reaches_other, stays_only, numbers_of, has_contains, new_contains, b1, b2, b3, b4, b5, b6, begins_place, begins_word, begins_number_word, begins_number, begins_table_word, begins_behind, expects_place, expects_number_word, expects_number, expects_table_word, expects_name, RestTail, expects_rest, ShapeTail, shape_tail, sets_tail, ways_tail, ChoiceTail, choice_tail, ChooserTail, chooser_tail, seed_tail, done_tail}
+use Rattle.setup_text.proofs.Follows.{Follows}
+use Rattle.setup_text.proofs.LineFaults.{decimal_same, FreeHere, free_nil, free_push, board_is_free, Begins, Faulty, judged_at, Refused, NumberTail, WordTail, NameTail, EndTail, number_refused, from_one_refused, word_refused, end_refused, name_refused, refused_at, differ}
+use Rattle.setup_text.proofs.BoardFaults.{found_table, found_same, reaches_other, stays_only, numbers_of, has_contains, new_contains, b1, b2, b3, b4, b5, b6, begins_place, begins_number_word, begins_number, begins_table_word, begins_behind, expects_number_word, expects_number, expects_table_word, expects_name, RestTail, expects_rest, ShapeTail, shape_tail, sets_tail, ways_tail, ChoiceTail, choice_tail, ChooserTail, chooser_tail, seed_tail, done_tail}
 
 abbrev pub boards_of : SetupText → List BoardSpec
 boards_of s = (setup_of s).boards

@@ -1,12 +1,11 @@
 -- Where a line behind the lines of a setup is refused, and that one that is read fails no side condition.
-use Rattle.std.proofs.Common.{◌≡◌, ℕ, zero, suc, ◌+◌, ◌<◌, ◌≤◌, ◌^◌, ◌⊎◌, inl, inr, Bool, true, false, cond, ltb, List, [], ◌∷◌, ◌++◌, map, length, drop, Option, Some, None, Result, Ok, Err, refl, sym, ap, subst, ◌∙◌, append_assoc, arith}
+use Rattle.std.proofs.Common.{◌≡◌, ℕ, ◌<◌, ◌≤◌, ◌^◌, ◌⊎◌, inl, inr, Bool, true, false, cond, ltb, List, [], ◌∷◌, ◌++◌, length, drop, Option, Some, None, Result, Ok, Err, refl, sym, ap, subst, ◌∙◌, arith}
 use Rattle.std.specs.Prelude.{codes, decimal}
 use Rattle.std.specs.Str.{bytes_eq}
 use Rattle.std.proofs.lemmas.Bool.{ltb-true, ltb-false}
-use Rattle.fb_text.specs.Lines.{is_empty}
-use Rattle.fb_text.specs.Places.{Words, Place, line_places}
-use Rattle.fb_text.proofs.LineItems.{from, empty_or_last}
-use Rattle.fb_text.proofs.LineLaws.{FreeFront, FaultBehind}
+use Rattle.fb_text.specs.Places.{Words, Place}
+use Rattle.fb_text.proofs.LineItems.{empty_or_last}
+use Rattle.fb_text.proofs.LineLaws.{FreeFront}
 use Rattle.bus_signals.specs.declared.Access.{Access}
 use Rattle.bus_signals.specs.declared.Access.TheVariants as accesses
 use Rattle.bus_signals.specs.declared.LocalEvent.{LocalEvent}
@@ -20,18 +19,18 @@ use Rattle.table_text.specs.Reading.{◌>>=◌}
 use Rattle.setup_text.specs.declared.fault.LimitOf.TheVariants.{Boards, Accesses}
 use Rattle.setup_text.specs.declared.fault.SetupKind.{SetupKind}
 use Rattle.setup_text.specs.declared.fault.SetupKind.TheVariants.{UnknownWord, Limit}
-use Rattle.setup_text.specs.Spelling.{TableText, BoardText, SetupText, end_row, word_row, head_row, board_row, access_row, open_rows, setup_rows, AccessFits, WordFits, SetupFits}
+use Rattle.setup_text.specs.Spelling.{TableText, BoardText, SetupText, end_row, word_row, head_row, board_row, access_row, open_rows, setup_rows, AccessFits, SetupFits}
 use Rattle.setup_text.specs.Values.{tables_of, setup_of}
 use Rattle.setup_text.specs.Standing.{StandsSoFar}
-use Rattle.setup_text.specs.Grammars.{setup_grammar, BreaksSetup, JudgedFirst, JudgedName, JudgedTableWord, slot_of, address, value, other}
+use Rattle.setup_text.specs.Grammars.{setup_grammar, BreaksSetup, JudgedFirst, JudgedTableWord}
 use Rattle.setup_text.specs.Drafts.{with_word, with_access}
-use Rattle.setup_text.specs.Reading.{Mode, body, in_table, ended, value_line, address_line, word_line, head_line, table_head, board_added, access_of, access_line, access_read, end_line, line_ends, maybe_access, body_line}
-use Rattle.setup_text.proofs.LineWords.{Binds, binds, is_word, word_itself, nothing_read, head_read}
+use Rattle.setup_text.specs.Reading.{Mode, body, in_table, value_line, address_line, word_line, head_line, table_head, board_added, access_of, access_line, access_read, end_line, maybe_access, body_line}
+use Rattle.setup_text.proofs.LineWords.{binds, is_word, head_read}
 use Rattle.setup_text.proofs.Parts.{text}
-use Rattle.setup_text.proofs.Follows.{Follows, word as word_follows, head, next, InBoards, board, access, ends, follows, next_word, next_head, next_access, next_end, begins_by}
+use Rattle.setup_text.proofs.Follows.{Follows, word as word_follows, head, next, board, access, ends, follows, next_word, next_head, next_access, next_end, begins_by}
 use Rattle.setup_text.proofs.OneText.{breaks_body}
 use Rattle.setup_text.proofs.HeadLines.{head_stops, head_free}
-use Rattle.setup_text.proofs.LineFaults.{spelled, same_breaks, same_unfit, no_row, differ, FreeHere, free_nil, free_push, free_from, word_is_free, board_is_free, end_is_free, event_is_free, Begins, Faulty, unfit_at, judged_at, only_word, only_head, only_end, EventTail, only_access}
+use Rattle.setup_text.proofs.LineFaults.{spelled, same_breaks, same_unfit, no_row, differ, FreeHere, free_nil, free_push, free_from, word_is_free, end_is_free, event_is_free, Begins, Faulty, unfit_at, judged_at, only_word, only_head, only_end, EventTail, only_access}
 use Rattle.setup_text.proofs.BoardRefused.{board_stops, board_passes}
 use Rattle.setup_text.proofs.AddressFaults.{one_stops, one_passes, two_stops, two_passes}
 
@@ -269,60 +268,60 @@ module _ (rest : List Place) (line : ℕ) where
           (λ x y a b. begins_there (accesses.Write x y) (codes "write" ∷ decimal x ∷ decimal y ∷ []) [] (a, b) refl) (λ t others f. expects_access events.Write t others f) l a e
 
   module _ (n : ℕ) (ws : List (ℕ × ℕ)) (ts : List TableText) (bs : List BoardText) (h : StandsSoFar (text n ws ts bs)) (some : 0 < length bs) where
-      there : (a : Access) (words more : Words) → AccessFits a → access_row a ≡ words ++ more → Begins (text n ws ts bs) words
-      there a words more fits e = begins_there n ws ts bs h some a words more fits e
+    there : (a : Access) (words more : Words) → AccessFits a → access_row a ≡ words ++ more → Begins (text n ws ts bs) words
+    there a words more fits e = begins_there n ws ts bs h some a words more fits e
 
-      event_begins : (event : LocalEvent) → Begins (text n ws ts bs) (local_event_word event ∷ [])
-      event_begins events.Read = there (accesses.Read 0) (codes "read" ∷ []) (decimal 0 ∷ []) (omega arith) refl
-      event_begins events.Write = there (accesses.Write 0 0) (codes "write" ∷ []) (decimal 0 ∷ decimal 0 ∷ []) (omega arith, omega arith) refl
-      event_begins events.Pass = there (accesses.Pass 0) (codes "pass" ∷ []) (decimal 0 ∷ []) (omega arith) refl
-      event_begins events.Flush = there (accesses.Flush 0) (codes "flush" ∷ []) (decimal 0 ∷ []) (omega arith) refl
+    event_begins : (event : LocalEvent) → Begins (text n ws ts bs) (local_event_word event ∷ [])
+    event_begins events.Read = there (accesses.Read 0) (codes "read" ∷ []) (decimal 0 ∷ []) (omega arith) refl
+    event_begins events.Write = there (accesses.Write 0 0) (codes "write" ∷ []) (decimal 0 ∷ decimal 0 ∷ []) (omega arith, omega arith) refl
+    event_begins events.Pass = there (accesses.Pass 0) (codes "pass" ∷ []) (decimal 0 ∷ []) (omega arith) refl
+    event_begins events.Flush = there (accesses.Flush 0) (codes "flush" ∷ []) (decimal 0 ∷ []) (omega arith) refl
 
-      event_stops : access_count (setup_of (text n ws ts bs)) < 100000 → (event : LocalEvent) (l : Words) (k : SetupKind) → access_line (length (setup_of (text n ws ts bs)).memory) event l ≡ Err k → Faulty (text n ws ts bs) line (local_event_word event ∷ l) rest k
-      unfolding access_line
-      event_stops few events.Read l k e = go (address_line (length (setup_of (text n ws ts bs)).memory) l) refl e
-        where
-          go : (x : Result ℕ SetupKind) → address_line (length (setup_of (text n ws ts bs)).memory) l ≡ x → one_access events.Read x ≡ Err k → Faulty (text n ws ts bs) line (codes "read" ∷ l) rest k
-          go (Ok a) r e = absurd cc
-          go (Err j) r e = let same : j ≡ k = cc in read_stops n ws ts bs h some few l k (r ∙ ap (λ (x : SetupKind). Err x) same)
-      event_stops few events.Write l k e = go (value_line (length (setup_of (text n ws ts bs)).memory) l) refl e
-        where
-          go : (x : Result (ℕ × ℕ) SetupKind) → value_line (length (setup_of (text n ws ts bs)).memory) l ≡ x → two_access events.Write x ≡ Err k → Faulty (text n ws ts bs) line (codes "write" ∷ l) rest k
-          go (Ok a) r e = absurd cc
-          go (Err j) r e = let same : j ≡ k = cc in write_stops n ws ts bs h some few l k (r ∙ ap (λ (x : SetupKind). Err x) same)
-      event_stops few events.Pass l k e = go (address_line (length (setup_of (text n ws ts bs)).memory) l) refl e
-        where
-          go : (x : Result ℕ SetupKind) → address_line (length (setup_of (text n ws ts bs)).memory) l ≡ x → one_access events.Pass x ≡ Err k → Faulty (text n ws ts bs) line (codes "pass" ∷ l) rest k
-          go (Ok a) r e = absurd cc
-          go (Err j) r e = let same : j ≡ k = cc in pass_stops n ws ts bs h some few l k (r ∙ ap (λ (x : SetupKind). Err x) same)
-      event_stops few events.Flush l k e = go (address_line (length (setup_of (text n ws ts bs)).memory) l) refl e
-        where
-          go : (x : Result ℕ SetupKind) → address_line (length (setup_of (text n ws ts bs)).memory) l ≡ x → one_access events.Flush x ≡ Err k → Faulty (text n ws ts bs) line (codes "flush" ∷ l) rest k
-          go (Ok a) r e = absurd cc
-          go (Err j) r e = let same : j ≡ k = cc in flush_stops n ws ts bs h some few l k (r ∙ ap (λ (x : SetupKind). Err x) same)
+    event_stops : access_count (setup_of (text n ws ts bs)) < 100000 → (event : LocalEvent) (l : Words) (k : SetupKind) → access_line (length (setup_of (text n ws ts bs)).memory) event l ≡ Err k → Faulty (text n ws ts bs) line (local_event_word event ∷ l) rest k
+    unfolding access_line
+    event_stops few events.Read l k e = go (address_line (length (setup_of (text n ws ts bs)).memory) l) refl e
+      where
+        go : (x : Result ℕ SetupKind) → address_line (length (setup_of (text n ws ts bs)).memory) l ≡ x → one_access events.Read x ≡ Err k → Faulty (text n ws ts bs) line (codes "read" ∷ l) rest k
+        go (Ok a) r e = absurd cc
+        go (Err j) r e = let same : j ≡ k = cc in read_stops n ws ts bs h some few l k (r ∙ ap (λ (x : SetupKind). Err x) same)
+    event_stops few events.Write l k e = go (value_line (length (setup_of (text n ws ts bs)).memory) l) refl e
+      where
+        go : (x : Result (ℕ × ℕ) SetupKind) → value_line (length (setup_of (text n ws ts bs)).memory) l ≡ x → two_access events.Write x ≡ Err k → Faulty (text n ws ts bs) line (codes "write" ∷ l) rest k
+        go (Ok a) r e = absurd cc
+        go (Err j) r e = let same : j ≡ k = cc in write_stops n ws ts bs h some few l k (r ∙ ap (λ (x : SetupKind). Err x) same)
+    event_stops few events.Pass l k e = go (address_line (length (setup_of (text n ws ts bs)).memory) l) refl e
+      where
+        go : (x : Result ℕ SetupKind) → address_line (length (setup_of (text n ws ts bs)).memory) l ≡ x → one_access events.Pass x ≡ Err k → Faulty (text n ws ts bs) line (codes "pass" ∷ l) rest k
+        go (Ok a) r e = absurd cc
+        go (Err j) r e = let same : j ≡ k = cc in pass_stops n ws ts bs h some few l k (r ∙ ap (λ (x : SetupKind). Err x) same)
+    event_stops few events.Flush l k e = go (address_line (length (setup_of (text n ws ts bs)).memory) l) refl e
+      where
+        go : (x : Result ℕ SetupKind) → address_line (length (setup_of (text n ws ts bs)).memory) l ≡ x → one_access events.Flush x ≡ Err k → Faulty (text n ws ts bs) line (codes "flush" ∷ l) rest k
+        go (Ok a) r e = absurd cc
+        go (Err j) r e = let same : j ≡ k = cc in flush_stops n ws ts bs h some few l k (r ∙ ap (λ (x : SetupKind). Err x) same)
 
-      event_passes : access_count (setup_of (text n ws ts bs)) < 100000 → (event : LocalEvent) (l : Words) (a : Access) → access_line (length (setup_of (text n ws ts bs)).memory) event l ≡ Ok a → FreeHere (text n ws ts bs) (local_event_word event ∷ l)
-      unfolding access_line
-      event_passes few events.Read l a e = go (address_line (length (setup_of (text n ws ts bs)).memory) l) refl e
-        where
-          go : (x : Result ℕ SetupKind) → address_line (length (setup_of (text n ws ts bs)).memory) l ≡ x → one_access events.Read x ≡ Ok a → FreeHere (text n ws ts bs) (codes "read" ∷ l)
-          go (Ok x) r e = read_passes n ws ts bs h some few l x r
-          go (Err j) r e = absurd cc
-      event_passes few events.Write l a e = go (value_line (length (setup_of (text n ws ts bs)).memory) l) refl e
-        where
-          go : (x : Result (ℕ × ℕ) SetupKind) → value_line (length (setup_of (text n ws ts bs)).memory) l ≡ x → two_access events.Write x ≡ Ok a → FreeHere (text n ws ts bs) (codes "write" ∷ l)
-          go (Ok x) r e = write_passes n ws ts bs h some few l x r
-          go (Err j) r e = absurd cc
-      event_passes few events.Pass l a e = go (address_line (length (setup_of (text n ws ts bs)).memory) l) refl e
-        where
-          go : (x : Result ℕ SetupKind) → address_line (length (setup_of (text n ws ts bs)).memory) l ≡ x → one_access events.Pass x ≡ Ok a → FreeHere (text n ws ts bs) (codes "pass" ∷ l)
-          go (Ok x) r e = pass_passes n ws ts bs h some few l x r
-          go (Err j) r e = absurd cc
-      event_passes few events.Flush l a e = go (address_line (length (setup_of (text n ws ts bs)).memory) l) refl e
-        where
-          go : (x : Result ℕ SetupKind) → address_line (length (setup_of (text n ws ts bs)).memory) l ≡ x → one_access events.Flush x ≡ Ok a → FreeHere (text n ws ts bs) (codes "flush" ∷ l)
-          go (Ok x) r e = flush_passes n ws ts bs h some few l x r
-          go (Err j) r e = absurd cc
+    event_passes : access_count (setup_of (text n ws ts bs)) < 100000 → (event : LocalEvent) (l : Words) (a : Access) → access_line (length (setup_of (text n ws ts bs)).memory) event l ≡ Ok a → FreeHere (text n ws ts bs) (local_event_word event ∷ l)
+    unfolding access_line
+    event_passes few events.Read l a e = go (address_line (length (setup_of (text n ws ts bs)).memory) l) refl e
+      where
+        go : (x : Result ℕ SetupKind) → address_line (length (setup_of (text n ws ts bs)).memory) l ≡ x → one_access events.Read x ≡ Ok a → FreeHere (text n ws ts bs) (codes "read" ∷ l)
+        go (Ok x) r e = read_passes n ws ts bs h some few l x r
+        go (Err j) r e = absurd cc
+    event_passes few events.Write l a e = go (value_line (length (setup_of (text n ws ts bs)).memory) l) refl e
+      where
+        go : (x : Result (ℕ × ℕ) SetupKind) → value_line (length (setup_of (text n ws ts bs)).memory) l ≡ x → two_access events.Write x ≡ Ok a → FreeHere (text n ws ts bs) (codes "write" ∷ l)
+        go (Ok x) r e = write_passes n ws ts bs h some few l x r
+        go (Err j) r e = absurd cc
+    event_passes few events.Pass l a e = go (address_line (length (setup_of (text n ws ts bs)).memory) l) refl e
+      where
+        go : (x : Result ℕ SetupKind) → address_line (length (setup_of (text n ws ts bs)).memory) l ≡ x → one_access events.Pass x ≡ Ok a → FreeHere (text n ws ts bs) (codes "pass" ∷ l)
+        go (Ok x) r e = pass_passes n ws ts bs h some few l x r
+        go (Err j) r e = absurd cc
+    event_passes few events.Flush l a e = go (address_line (length (setup_of (text n ws ts bs)).memory) l) refl e
+      where
+        go : (x : Result ℕ SetupKind) → address_line (length (setup_of (text n ws ts bs)).memory) l ≡ x → one_access events.Flush x ≡ Ok a → FreeHere (text n ws ts bs) (codes "flush" ∷ l)
+        go (Ok x) r e = flush_passes n ws ts bs h some few l x r
+        go (Err j) r e = absurd cc
 
   access_stops : (n : ℕ) (ws : List (ℕ × ℕ)) (ts : List TableText) (bs : List BoardText) (event : LocalEvent) (l : Words) (k : SetupKind) → StandsSoFar (text n ws ts bs) → access_read (setup_of (text n ws ts bs)) event l ≡ Err k → Faulty (text n ws ts bs) line (local_event_word event ∷ l) rest k
   access_stops n ws ts [] event l k h e = unknown (text n ws ts []) (local_event_word event) l k h (λ more others f. (let x = only_access (text n ws ts []) event more others f in let some = x.1 in omega arith)) cc

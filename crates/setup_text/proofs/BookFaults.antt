@@ -1,20 +1,19 @@
 -- The first fault of a text of tables.
-use Rattle.std.proofs.Common.{◌≡◌, ℕ, ◌+◌, ◌<◌, ◌≤◌, ◌⊎◌, inl, inr, Bool, true, false, cond, List, [], ◌∷◌, ◌++◌, map, length, Option, Some, None, Result, Ok, Err, refl, sym, ap, subst, ◌∙◌, append_assoc, arith}
+use Rattle.std.proofs.Common.{◌≡◌, ℕ, ◌<◌, inl, inr, Bool, true, false, cond, List, [], ◌∷◌, ◌++◌, map, length, Some, None, Result, Ok, Err, refl, sym, ap, subst, ◌∙◌, append_assoc, arith}
 use Rattle.std.specs.Prelude.{codes, IfErr}
 use Rattle.std.specs.List.{AllByRecursion}
 use Rattle.std.specs.Str.{bytes_eq}
-use Rattle.std.proofs.lemmas.List.{append-nil, map-append, length-append, length-map}
-use Rattle.fb_text.specs.Places.{Words, Item, Place, word, text_end, items, lines_items, line_places, lines_places, text_places, IsFault, FirstFault, BreaksAtWord}
+use Rattle.std.proofs.lemmas.List.{append-nil, length-append}
+use Rattle.fb_text.specs.Places.{Words, Item, Place, text_end, lines_items, line_places, lines_places, text_places, BreaksAtWord}
 use Rattle.fb_text.specs.Unread.{Line, unread}
-use Rattle.fb_text.proofs.LineItems.{from, item_at}
-use Rattle.fb_text.proofs.LineLaws.{IsClosing, BeginsLine, HasNext, NoLine, FreeFront, FaultBehind, first_fault, stops_in_line, behind_line, text_stops, unfit_fault}
+use Rattle.fb_text.proofs.LineLaws.{IsClosing, HasNext, NoLine, FreeFront, FaultBehind, first_fault, stops_in_line, behind_line, text_stops, unfit_fault}
 use Rattle.class_relation.specs.Names.{is_name}
 use Rattle.class_relation.specs.Tables.{Table, empty_table}
 use Rattle.table_text.specs.declared.fault.TableKind.{TableKind}
 use Rattle.table_text.specs.Reading.{◌>>=◌, table_line}
 use Rattle.table_text.specs.Spelling.{CellLine, local, answer, cell_words, HasAlternative, BreaksCell, table_of}
 use Rattle.table_text.specs.Correct.{CanStand}
-use Rattle.table_text.proofs.TableLaws.{HasAllCells, IsCellLine, table_line_takes}
+use Rattle.table_text.proofs.TableLaws.{table_line_takes}
 use Rattle.setup_text.specs.declared.fault.SetupKind.{SetupKind}
 use Rattle.setup_text.specs.declared.fault.SetupKind.TheVariants.{UnknownWord, NoEnd}
 use Rattle.setup_text.specs.declared.fault.SetupFault.{SetupFault}
@@ -24,12 +23,12 @@ use Rattle.setup_text.specs.Values.{tables_of}
 use Rattle.setup_text.specs.Standing.{TablesStand}
 use Rattle.setup_text.specs.Grammars.{book_grammar, BreaksBook, UnfitText, kind_of}
 use Rattle.setup_text.specs.Correct.{IsFirstFault}
-use Rattle.setup_text.specs.Reading.{BookMode, whole, within, Fault, Answers, on_line, this_word, head_line, as_setup_kind, after_book_line, book_line, book_lines, book_ends, book_at}
+use Rattle.setup_text.specs.Reading.{BookMode, within, Fault, Answers, on_line, this_word, head_line, as_setup_kind, after_book_line, book_line, book_lines, book_ends, book_at}
 use Rattle.setup_text.proofs.Growing.{each_push}
-use Rattle.setup_text.proofs.LineWords.{Binds, binds, ok_same, is_word, word_read, ReadsName, head_read}
+use Rattle.setup_text.proofs.LineWords.{binds, word_read, ReadsName, head_read}
 use Rattle.setup_text.proofs.Parts.{table_text, flat_push, TableStands}
 use Rattle.setup_text.proofs.SetupLines.{table_whole}
-use Rattle.setup_text.proofs.Books.{BookPart, wholes, inside, mode_of, rows_of, Good, Grows, line_takes, rows_close, rows_cell, nothing_stands}
+use Rattle.setup_text.proofs.Books.{BookPart, wholes, inside, mode_of, rows_of, Good, line_takes, rows_close, rows_cell, nothing_stands}
 use Rattle.setup_text.proofs.Follows.{InTable, peel_tables, table_follows}
 use Rattle.setup_text.proofs.OneText.{book_breaks_whole, book_breaks_open}
 use Rattle.setup_text.proofs.OpenTables.{line_stops, cell_free, end_free}
@@ -81,9 +80,12 @@ next_end ts t s h = (ts ++ t ∷ [], [], (some_more ts t, each_push TableFits ts
 next_cell : (ts : List TableText) (t : TableText) → TablesStand ts → TableStands (tables_of ts) t → (c : CellLine) → HasAlternative c → HasNext book_grammar tables_rows (tables_rows ts ++ open_table_rows t) (cell_words c)
 next_cell ts t s h c some =
     let u = table_text t.name (t.cells ++ c ∷ []) in
-    let fits = h.fits in
-    (ts ++ u ∷ [], end_row ∷ [], (some_more ts u, each_push TableFits ts u s.fits (record { name = fits.name; cells = each_push HasAlternative t.cells c fits.cells some })),
-    flat_push table_rows ts u ∙ (rows_close (tables_rows ts) u ∙ (ap (λ (x : List Words). x ++ end_row ∷ []) (rows_cell (tables_rows ts) t.name t.cells c) ∙ append_assoc (tables_rows ts ++ open_table_rows t) (cell_words c ∷ []) (end_row ∷ []))))
+    let fits = h.fits in (
+      ts ++ u ∷ [],
+      end_row ∷ [],
+      (some_more ts u, each_push TableFits ts u s.fits (record { name = fits.name; cells = each_push HasAlternative t.cells c fits.cells some })),
+      flat_push table_rows ts u ∙ (rows_close (tables_rows ts) u ∙ (ap (λ (x : List Words). x ++ end_row ∷ []) (rows_cell (tables_rows ts) t.name t.cells c) ∙ append_assoc (tables_rows ts ++ open_table_rows t) (cell_words c ∷ []) (end_row ∷ []))),
+    )
 
 -- ---- one line
 

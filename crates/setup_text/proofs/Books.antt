@@ -1,5 +1,5 @@
 -- Texts of tables: what is read is spelled so, and what is spelled so is read.
-use Rattle.std.proofs.Common.{◌≡◌, ◌≢◌, ℕ, ◌+◌, ◌<◌, ◌≤◌, Bool, true, false, List, [], ◌∷◌, ◌++◌, map, length, Option, Some, None, Result, Ok, Err, refl, sym, ap, subst, ◌∙◌, append_assoc, arith, AllPairs}
+use Rattle.std.proofs.Common.{◌≡◌, ℕ, ◌<◌, Bool, true, false, List, [], ◌∷◌, ◌++◌, map, length, Result, Ok, Err, refl, sym, ap, subst, ◌∙◌, append_assoc, arith}
 use Rattle.std.specs.Prelude.{codes, IfOk}
 use Rattle.std.specs.List.{AllByRecursion}
 use Rattle.std.proofs.lemmas.List.{append-nil, length-map, map-append}
@@ -23,7 +23,7 @@ use Rattle.setup_text.specs.Correct.{IsBook, IsReadAs}
 use Rattle.setup_text.specs.Reading.{BookMode, whole, within, Fault, Answers, on_line, this_word, head_line, as_setup_kind, after_book_line, book_line, book_lines, book_ends, book_at}
 use Rattle.setup_text.proofs.Texts.{text_items, same_rows}
 use Rattle.setup_text.proofs.Growing.{each_push}
-use Rattle.setup_text.proofs.LineWords.{binds, ok_same, word_read, ReadsName, head_read, head_reads}
+use Rattle.setup_text.proofs.LineWords.{binds, ok_same, word_read, head_read, head_reads}
 use Rattle.setup_text.proofs.Parts.{table_text, flat_push, TableStands, tables_append, tables_grow, no_tables}
 use Rattle.setup_text.proofs.SetupLines.{table_whole, entered_push, cell_stands}
 use Rattle.setup_text.proofs.SetupAgain.{one_stands}

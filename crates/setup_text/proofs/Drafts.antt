@@ -1,5 +1,5 @@
 -- What changes of a setup that was read so far keep.
-use Rattle.std.proofs.Common.{◌≡◌, ◌≢◌, ℕ, zero, suc, ◌+◌, ◌-◌, ◌<◌, ◌≤◌, Bool, true, false, ◌↔◌, not, ◌||◌, List, [], ◌∷◌, ◌++◌, map, length, get_or, set, Option, None, Result, Ok, Err, OnOk, OnErr, refl, sym, ap, subst, ◌∙◌, arith, IsTrue, All, AllPairs, sum_by}
+use Rattle.std.proofs.Common.{◌≡◌, ◌≢◌, ℕ, ◌+◌, ◌-◌, ◌<◌, ◌≤◌, Bool, true, false, ◌↔◌, not, ◌||◌, List, [], ◌∷◌, ◌++◌, map, length, get_or, set, None, Result, Ok, Err, OnOk, OnErr, refl, sym, ap, subst, ◌∙◌, arith, IsTrue, All, sum_by}
 use Rattle.std.proofs.lemmas.List.{length-set, length-append, length-map, map-set, get_or-map, get_or_append_left, map-append}
 use Rattle.std.proofs.lemmas.List.Elements.{All-set, All-push, All-weaker, All-get_or}
 use Rattle.std.proofs.lemmas.List.Quantifiers.{all_pairs_push}
@@ -19,7 +19,7 @@ use Rattle.class_relation.specs.Tables.{Table, empty_table}
 use Rattle.table_check.specs.Reached.{Reached, is_reached}
 use Rattle.table_check.specs.Setup.{Setup, BoardFits, ShapeFits, access_count}
 use Rattle.table_check.proofs.Reaching.{reached-test, test-reached}
-use Rattle.setup_text.specs.Drafts.{with_access, with_table, access_added, Named, named, found_name, stays_invalid, AreTables, IsDraft, IsKnown, IsShape}
+use Rattle.setup_text.specs.Drafts.{with_access, access_added, Named, named, found_name, stays_invalid, AreTables, IsDraft, IsKnown, IsShape}
 use Rattle.setup_text.proofs.Naming.{found_new}
 
 -- a script that grew is that of the last list

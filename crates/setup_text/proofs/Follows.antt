@@ -1,19 +1,12 @@
 -- The lines that can follow the lines of a setup in some text of the productions.
-use Rattle.std.proofs.Common.{◌≡◌, ℕ, ◌+◌, ◌<◌, ◌≤◌, ◌^◌, ◌⊎◌, inl, inr, List, [], ◌∷◌, ◌++◌, map, length, refl, sym, ap, subst, ◌∙◌, append_assoc, arith, true}
-use Rattle.std.specs.Prelude.{codes, decimal}
+use Rattle.std.proofs.Common.{◌≡◌, ℕ, ◌<◌, ◌⊎◌, inl, inr, List, [], ◌∷◌, ◌++◌, map, length, refl, sym, ap, subst, ◌∙◌, append_assoc, arith, true}
 use Rattle.std.specs.List.{AllByRecursion}
-use Rattle.std.proofs.lemmas.List.{append-nil}
-use Rattle.fb_text.specs.Places.{Words, text_end, lines_items}
-use Rattle.fb_text.proofs.LineLaws.{IsClosing, HasNext, BeginsLine}
-use Rattle.moesi_state.specs.declared.State.{State}
-use Rattle.moesi_state.specs.declared.State.TheVariants.{M, O, E, S, I}
+use Rattle.fb_text.specs.Places.{Words}
+use Rattle.fb_text.proofs.LineLaws.{HasNext, BeginsLine}
 use Rattle.bus_signals.specs.declared.Access.{Access}
 use Rattle.bus_signals.specs.declared.Access.TheVariants as accesses
 use Rattle.class_relation.specs.Names.{is_name}
-use Rattle.table_check.specs.declared.boards.Shape.TheVariants.{Plain, Cached}
-use Rattle.table_check.specs.declared.boards.Choose.TheVariants.{First}
 use Rattle.table_text.specs.Spelling.{CellLine, local, answer, cell_words, HasAlternative}
-use Rattle.setup_text.specs.declared.fault.SetupKind.{SetupKind}
 use Rattle.setup_text.specs.Spelling.{TableText, BoardText, SetupText, end_row, memory_row, word_row, head_row, board_row, access_row, open_table_rows, table_rows, board_rows, tables_rows, open_rows, setup_rows, AccessFits, WordFits, TableFits, BoardFits, SetupFits}
 use Rattle.setup_text.specs.Grammars.{setup_grammar}
 use Rattle.setup_text.proofs.Growing.{each_push, each_before}
@@ -225,9 +218,12 @@ next_word n ws w fits f = ended_rows (text n (ws ++ w ∷ []) [] []) (open_rows 
 
 pub next_head : (n : ℕ) (ws : List (ℕ × ℕ)) (ts : List TableText) (name : List ℕ) → SetupFits (text n ws ts []) → is_name name ≡ true → Next (open_rows (text n ws ts [])) (head_row name)
 next_head n ws ts name fits f =
-    let t = table_text name [] in
-    (text n ws (ts ++ t ∷ []) [], end_row ∷ end_row ∷ [], record { lines = fits.lines; words = fits.words; tables = each_push TableFits ts t fits.tables (record { name = f; cells = tt }); boards = tt },
-    ap (λ (v : List Words). v ++ end_row ∷ []) (rows_table n ws ts t) ∙ append_assoc (open_rows (text n ws ts [])) (head_row name ∷ end_row ∷ []) (end_row ∷ []))
+    let t = table_text name [] in (
+      text n ws (ts ++ t ∷ []) [],
+      end_row ∷ end_row ∷ [],
+      record { lines = fits.lines; words = fits.words; tables = each_push TableFits ts t fits.tables (record { name = f; cells = tt }); boards = tt },
+      ap (λ (v : List Words). v ++ end_row ∷ []) (rows_table n ws ts t) ∙ append_assoc (open_rows (text n ws ts [])) (head_row name ∷ end_row ∷ []) (end_row ∷ []),
+    )
 
 pub next_board : (n : ℕ) (ws : List (ℕ × ℕ)) (ts : List TableText) (bs : List BoardText) (b : BoardText) → SetupFits (text n ws ts bs) → BoardFits b → b.script ≡ [] → Next (open_rows (text n ws ts bs)) (board_row b)
 next_board n ws ts bs b fits f none =

@@ -1,20 +1,17 @@
 -- What stands of a setup when its text grows by a line, and what stood before.
-use Rattle.std.proofs.Common.{◌≡◌, ◌≢◌, ℕ, zero, suc, ◌+◌, ◌-◌, ◌*◌, ◌/◌, ◌<◌, ◌≤◌, ◌^◌, Bool, true, false, ◌||◌, eqb, List, [], ◌∷◌, ◌++◌, map, length, get_or, set, replicate, Option, Some, None, refl, sym, ap, subst, ◌∙◌, append_assoc, arith, All, AllPairs, sum_by}
-use Rattle.std.specs.List.{AllByRecursion, list_any}
-use Rattle.std.specs.Str.{bytes_eq}
+use Rattle.std.proofs.Common.{◌≡◌, ◌≢◌, ℕ, zero, suc, ◌+◌, ◌-◌, ◌/◌, ◌<◌, ◌≤◌, ◌^◌, Bool, true, false, ◌||◌, eqb, List, [], ◌∷◌, ◌++◌, length, get_or, set, refl, sym, ap, subst, ◌∙◌, arith, All, AllPairs, sum_by}
+use Rattle.std.specs.List.{AllByRecursion}
 use Rattle.std.proofs.lemmas.Bool.{eqb-true, eqb-false}
-use Rattle.std.proofs.lemmas.List.{length-set, length-append, length-map, map-append, append-nil, get_or_append_left, length-replicate}
-use Rattle.std.proofs.lemmas.List.Elements.{All-set, All-push, All-weaker, All-get_or}
+use Rattle.std.proofs.lemmas.List.{length-set, length-append, get_or_append_left}
+use Rattle.std.proofs.lemmas.List.Elements.{All-set, All-push, All-weaker}
 use Rattle.std.proofs.lemmas.List.Quantifiers.{all_pairs_push}
-use Rattle.std.proofs.lemmas.List.Sums.{sum_by-set, sum_by_push}
+use Rattle.std.proofs.lemmas.List.Sums.{sum_by_push}
 use Rattle.bus_signals.specs.declared.Access.{Access}
 use Rattle.bus_signals.specs.Accesses.{address_of}
-use Rattle.class_relation.specs.Tables.{Table, empty_table}
 use Rattle.table_check.specs.declared.boards.BoardSpec.{BoardSpec}
 use Rattle.table_check.specs.Setup.{Setup, BoardFits, line_count, access_count}
-use Rattle.setup_text.specs.Drafts.{with_word, with_board, with_access, access_added, IsDraft, AreTables}
+use Rattle.setup_text.specs.Drafts.{with_word, with_board, access_added, IsDraft}
 use Rattle.setup_text.specs.Reading.{has_number}
-use Rattle.setup_text.proofs.Drafts.{access_counted}
 
 -- ---- lists that grow at the end
 
@@ -141,20 +138,23 @@ access_before s front script access is d =
     let all_of = all_before (All (λ access. address_of access < length s.memory)) front (script ++ access ∷ []) d.addresses in
     let last = all_last (All (λ access. address_of access < length s.memory)) front (script ++ access ∷ []) d.addresses in
     let scripts : length (front ++ (script ++ access ∷ []) ∷ []) ≡ length s.boards = d.scripts in
-    let P : List (List Access) → Type 0 = All (All (λ access. address_of access < length s.memory)) in
-    (record {
-      memory = d.memory;
-      words = d.words;
-      lines_low = d.lines_low;
-      lines_high = d.lines_high;
-      tables = d.tables;
-      boards_high = d.boards_high;
-      boards = All-weaker (BoardFits (record s { scripts = front ++ (script ++ access ∷ []) ∷ [] })) (BoardFits s) (λ x h. record { number_low = h.number_low; number_high = h.number_high; table = h.table; shape = h.shape }) s.boards d.boards;
-      numbers = d.numbers;
-      scripts = omega (arith, scripts, ap (λ (x : List (List Access)). length x) is, length-append front (script ∷ []), length-append front ((script ++ access ∷ []) ∷ []));
-      addresses = subst P (sym is) (All-push (All (λ access. address_of access < length s.memory)) front script all_of (all_before (λ access. address_of access < length s.memory) script access last));
-      accesses = omega arith;
-    }, omega arith, all_last (λ access. address_of access < length s.memory) script access last)
+    let P : List (List Access) → Type 0 = All (All (λ access. address_of access < length s.memory)) in (
+      record {
+        memory = d.memory;
+        words = d.words;
+        lines_low = d.lines_low;
+        lines_high = d.lines_high;
+        tables = d.tables;
+        boards_high = d.boards_high;
+        boards = All-weaker (BoardFits (record s { scripts = front ++ (script ++ access ∷ []) ∷ [] })) (BoardFits s) (λ x h. record { number_low = h.number_low; number_high = h.number_high; table = h.table; shape = h.shape }) s.boards d.boards;
+        numbers = d.numbers;
+        scripts = omega (arith, scripts, ap (λ (x : List (List Access)). length x) is, length-append front (script ∷ []), length-append front ((script ++ access ∷ []) ∷ []));
+        addresses = subst P (sym is) (All-push (All (λ access. address_of access < length s.memory)) front script all_of (all_before (λ access. address_of access < length s.memory) script access last));
+        accesses = omega arith;
+      },
+      omega arith,
+      all_last (λ access. address_of access < length s.memory) script access last,
+    )
 
 -- the last script of lists that end so
 pub access_at_end : (front : List (List Access)) (script : List Access) (access : Access) → access_added (front ++ script ∷ []) access ≡ front ++ (script ++ access ∷ []) ∷ []

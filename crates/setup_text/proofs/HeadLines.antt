@@ -1,12 +1,11 @@
 -- The first fault of the head line of a table.
-use Rattle.std.proofs.Common.{◌≡◌, ◌≢◌, ℕ, zero, suc, ◌+◌, ◌<◌, ◌≤◌, ◌⊎◌, inl, inr, Bool, true, false, cond, ltb, List, [], ◌∷◌, ◌++◌, map, length, drop, Option, Some, None, Result, Ok, Err, refl, sym, ap, subst, ◌∙◌, append_assoc, arith, Contains}
+use Rattle.std.proofs.Common.{◌≡◌, ℕ, suc, ◌<◌, ◌≤◌, inr, Bool, true, false, cond, ltb, List, [], ◌∷◌, ◌++◌, map, length, Option, Some, None, Result, Ok, Err, refl, sym, ap, subst, ◌∙◌, arith, Contains}
 use Rattle.std.specs.Prelude.{codes}
 use Rattle.std.specs.Str.{bytes_eq}
-use Rattle.std.specs.Option.{option_map}
 use Rattle.std.proofs.lemmas.Bool.{ltb-true, ltb-false}
-use Rattle.std.proofs.lemmas.List.{append-nil, length-map, get_or-map}
+use Rattle.std.proofs.lemmas.List.{length-map, get_or-map}
 use Rattle.fb_text.specs.Places.{Words, Item, Place, word, text_end, lines_items, line_places, IsFault, BreaksAtWord, Grammar}
-use Rattle.fb_text.proofs.LineItems.{from, item_at}
+use Rattle.fb_text.proofs.LineItems.{item_at}
 use Rattle.fb_text.proofs.LineLaws.{IsClosing, BeginsLine, HasNext, NoLine, FreeFront, FaultBehind, stops_in_line, unfit_fault, judged_fault}
 use Rattle.class_relation.specs.Names.{is_name}
 use Rattle.class_relation.specs.Tables.{Table}
@@ -16,11 +15,11 @@ use Rattle.setup_text.specs.declared.fault.SetupKind.{SetupKind}
 use Rattle.setup_text.specs.declared.fault.SetupKind.TheVariants.{UnknownWord, TwiceName, Limit}
 use Rattle.setup_text.specs.Spelling.{head_row}
 use Rattle.setup_text.specs.Values.{names_of}
-use Rattle.setup_text.specs.Grammars.{unfit_word, unfit_end, UnfitText, JudgedTableWord, JudgedName}
-use Rattle.setup_text.specs.Drafts.{named, further, found_name}
+use Rattle.setup_text.specs.Grammars.{UnfitText, JudgedTableWord, JudgedName}
+use Rattle.setup_text.specs.Drafts.{named, found_name}
 use Rattle.setup_text.specs.Reading.{name_at, new_name, line_ends, head_name, head_line}
 use Rattle.setup_text.proofs.Naming.{found_new}
-use Rattle.setup_text.proofs.LineWords.{is_word, name_read, ReadsName}
+use Rattle.setup_text.proofs.LineWords.{is_word, name_read}
 
 -- ---- names among tables
 

@@ -1,32 +1,32 @@
 -- Faults of a line behind the lines of a setup.
-use Rattle.std.proofs.Common.{◌≡◌, ◌≢◌, ℕ, zero, suc, ◌+◌, ◌*◌, ◌<◌, ◌≤◌, ◌^◌, ◌⊎◌, inl, inr, Bool, true, false, cond, ltb, eqb, List, [], ◌∷◌, ◌++◌, map, length, get_or, drop, Option, Some, None, Result, Ok, Err, refl, sym, ap, subst, ◌∙◌, append_assoc, arith, Contains}
+use Rattle.std.proofs.Common.{◌≡◌, ℕ, ◌<◌, ◌≤◌, ◌^◌, ◌⊎◌, inl, inr, Bool, true, false, cond, eqb, List, [], ◌∷◌, ◌++◌, map, length, drop, Option, Some, None, Result, Ok, Err, refl, sym, ap, subst, ◌∙◌, arith}
 use Rattle.std.specs.Prelude.{codes, decimal}
 use Rattle.std.specs.Str.{bytes_eq}
-use Rattle.std.proofs.lemmas.Bool.{ltb-true, ltb-false, eqb-true, eqb-false}
+use Rattle.std.proofs.lemmas.Bool.{eqb-true}
 use Rattle.fb_text.specs.declared.fault.TextKind.{TextKind}
 use Rattle.fb_text.specs.Number.{number_of}
 use Rattle.fb_text.specs.Places.{Words, Item, Place, word, text_end, lines_items, line_places, BreaksAtWord}
 use Rattle.fb_text.specs.Unread.{number_within}
 use Rattle.fb_text.proofs.Decimal.{number_again}
 use Rattle.fb_text.proofs.LineItems.{from, item_at}
-use Rattle.fb_text.proofs.LineLaws.{IsClosing, BeginsLine, HasNext, NoLine, FreeFront, FaultBehind, stops_in_line, unfit_fault, judged_fault}
+use Rattle.fb_text.proofs.LineLaws.{IsClosing, BeginsLine, FreeFront, FaultBehind, stops_in_line, unfit_fault, judged_fault}
 use Rattle.bus_signals.specs.declared.Access.{Access}
 use Rattle.bus_signals.specs.declared.Access.TheVariants as accesses
 use Rattle.bus_signals.specs.declared.LocalEvent.{LocalEvent}
 use Rattle.bus_signals.specs.declared.LocalEvent.TheVariants as events
 use Rattle.class_words.specs.Words.{local_event_word}
 use Rattle.class_relation.specs.Names.{is_name}
-use Rattle.table_check.specs.Setup.{Setup, access_count}
+use Rattle.table_check.specs.Setup.{access_count}
 use Rattle.table_text.specs.Reading.{◌>>=◌}
 use Rattle.setup_text.specs.declared.fault.SetupKind.{SetupKind}
 use Rattle.setup_text.specs.declared.fault.SetupKind.TheVariants.{UnknownWord, Number}
-use Rattle.setup_text.specs.Spelling.{TableText, BoardText, SetupText, end_row, word_row, head_row, board_row, access_row, open_rows, setup_rows, WordFits, AccessFits, BoardFits, SetupFits}
+use Rattle.setup_text.specs.Spelling.{BoardText, SetupText, board_row, access_row, open_rows, setup_rows, WordFits, AccessFits, BoardFits}
 use Rattle.setup_text.specs.Values.{setup_of}
 use Rattle.setup_text.specs.Standing.{StandsSoFar}
 use Rattle.setup_text.specs.Grammars.{slot_of, unfit_word, unfit_end, UnfitText, JudgedFirst, JudgedAs, BreaksSetup, setup_grammar}
 use Rattle.setup_text.specs.Reading.{counted, number_at, from_one, number_from_one, this_word, line_ends, name_at}
-use Rattle.setup_text.proofs.LineWords.{binds, number_reads, from_one_reads, is_word, word_itself}
-use Rattle.setup_text.proofs.Follows.{Follows, word as word_follows, head, next, InBoards, board, access, ends, follows}
+use Rattle.setup_text.proofs.LineWords.{number_reads, word_itself}
+use Rattle.setup_text.proofs.Follows.{Follows, word as word_follows, head, next, board, access, ends, follows}
 use Rattle.setup_text.proofs.OneText.{breaks_body}
 
 pub closed_text : IsClosing (text_end ∷ [])

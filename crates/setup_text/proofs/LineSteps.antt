@@ -1,5 +1,5 @@
 -- Reading one line after another.
-use Rattle.std.proofs.Common.{◌≡◌, ℕ, Bool, true, false, cond, List, [], ◌∷◌, ◌++◌, length, drop, Option, Some, None, Result, Ok, Err, refl, sym, ap, subst, ◌∙◌, ◌≤◌, ◌≢◌, arith}
+use Rattle.std.proofs.Common.{◌≡◌, ℕ, Bool, true, false, cond, List, [], ◌∷◌, ◌++◌, length, drop, Option, Some, None, Result, Ok, Err, refl, sym, subst, ◌∙◌, ◌≤◌, ◌≢◌, arith}
 use Rattle.std.specs.Prelude.{codes}
 use Rattle.table_check.specs.declared.boards.BoardSpec.{BoardSpec}
 use Rattle.fb_text.specs.Places.{Words}
@@ -7,14 +7,14 @@ use Rattle.fb_text.specs.Lines.{is_empty}
 use Rattle.fb_text.specs.Unread.{Unread, Line, first, has_line, at_next_line}
 use Rattle.class_relation.specs.Tables.{Table, empty_table}
 use Rattle.table_check.specs.Setup.{Setup}
-use Rattle.table_text.specs.Reading.{◌>>=◌, StaysOnLine, table_line, table_lines, table_at}
+use Rattle.table_text.specs.Reading.{◌>>=◌, StaysOnLine, table_line, table_at}
 use Rattle.table_text.specs.declared.fault.TableKind.{TableKind}
 use Rattle.setup_text.specs.declared.fault.SetupFault.{SetupFault}
 use Rattle.setup_text.specs.declared.fault.SetupFault.TheVariants as faults
 use Rattle.setup_text.specs.declared.fault.SetupKind.{SetupKind}
 use Rattle.setup_text.specs.declared.fault.SetupKind.TheVariants.{UnknownWord, NoEnd}
 use Rattle.setup_text.specs.Drafts.{with_table}
-use Rattle.setup_text.specs.Reading.{Mode, start, body, in_table, ended, BookMode, Fault, Gives, Fails, FailsAs, Answers, GoesOn, on_line, then_lines, this_word, head_name, head_line, line_ends, table_head, book_head, whole_table, as_setup_fault, body_line, first_line, line_at, lines_at, text_ends, setup_at, book_line, book_lines, book_ends, place_in, places_on, schedule_lines, as_setup_kind, after_table_line, after_book_line, mode_after}
+use Rattle.setup_text.specs.Reading.{Mode, start, body, in_table, ended, BookMode, Fault, Gives, Fails, FailsAs, Answers, GoesOn, on_line, then_lines, this_word, head_name, head_line, line_ends, table_head, book_head, whole_table, as_setup_fault, first_line, line_at, lines_at, text_ends, book_line, book_lines, book_ends, place_in, places_on, schedule_lines, as_setup_kind, after_table_line, after_book_line, mode_after}
 use Rattle.setup_text.proofs.TableLines.{through_lines}
 
 abbrev at : ℕ → Words → List Line → ℕ → Unread

@@ -1,15 +1,15 @@
 -- What the words of a line are where they were read.
-use Rattle.std.proofs.Common.{◌≡◌, ◌≢◌, ℕ, ◌+◌, ◌*◌, ◌<◌, ◌≤◌, ◌^◌, ◌⊎◌, inl, inr, Bool, true, false, cond, ◌||◌, eqb, ltb, leb, List, [], ◌∷◌, ◌++◌, map, length, drop, Option, Some, None, Result, Ok, Err, refl, sym, ap, subst, ◌∙◌, append_assoc, arith}
+use Rattle.std.proofs.Common.{◌≡◌, ℕ, ◌+◌, ◌*◌, ◌<◌, ◌≤◌, ◌^◌, Bool, true, false, cond, ◌||◌, eqb, ltb, List, [], ◌∷◌, ◌++◌, map, length, Option, Some, None, Result, Ok, Err, refl, sym, ap, subst, ◌∙◌, arith}
 use Rattle.std.specs.Prelude.{codes, decimal}
 use Rattle.std.specs.Str.{bytes_eq}
-use Rattle.std.proofs.lemmas.Bool.{ltb-true, ltb-false, lt-ltb, le-ltb, eqb-true, eqb-false, leb-true, le-leb}
+use Rattle.std.proofs.lemmas.Bool.{ltb-true, ltb-false, lt-ltb, le-ltb, eqb-true, eqb-false}
 use Rattle.std.proofs.lemmas.List.{append-nil}
 use Rattle.std.proofs.lemmas.Slice.Eq.{bytes_eq-Decides}
 use Rattle.fb_text.specs.declared.fault.TextKind.{TextKind}
 use Rattle.fb_text.specs.Number.{number_of}
 use Rattle.fb_text.specs.Places.{Words}
-use Rattle.fb_text.specs.Unread.{first, number_in, number_within}
-use Rattle.fb_text.proofs.Decimal.{number_again, number_is}
+use Rattle.fb_text.specs.Unread.{number_within}
+use Rattle.fb_text.proofs.Decimal.{number_is}
 use Rattle.bus_signals.specs.declared.Access.{Access}
 use Rattle.bus_signals.specs.declared.Access.TheVariants as accesses
 use Rattle.bus_signals.specs.declared.LocalEvent.{LocalEvent}
@@ -23,14 +23,13 @@ use Rattle.table_check.specs.declared.boards.Choose.{Choose}
 use Rattle.table_check.specs.declared.boards.Choose.TheVariants.{First, Round, Seed}
 use Rattle.table_check.specs.declared.boards.Shape.{Shape}
 use Rattle.table_check.specs.declared.boards.Shape.TheVariants.{Plain, Cached}
-use Rattle.table_check.specs.Setup.{Setup}
 use Rattle.table_text.specs.Reading.{◌>>=◌}
-use Rattle.setup_text.specs.declared.fault.LimitOf.TheVariants.{Lines, Tables, Boards, Frames, Accesses}
+use Rattle.setup_text.specs.declared.fault.LimitOf.TheVariants.{Lines, Tables, Frames}
 use Rattle.setup_text.specs.declared.fault.SetupKind.{SetupKind}
-use Rattle.setup_text.specs.declared.fault.SetupKind.TheVariants.{UnknownWord, Number, Address, TwiceName, TwiceNumber, NoTable, NoFrames, Limit}
+use Rattle.setup_text.specs.declared.fault.SetupKind.TheVariants.{UnknownWord, Number, Address, TwiceName, TwiceNumber, NoFrames, Limit}
 use Rattle.setup_text.specs.Spelling.{shape_words, choose_words, access_row, ShapeFits, ChooseFits, AccessFits}
 use Rattle.setup_text.specs.Drafts.{named, found_name, IsShape}
-use Rattle.setup_text.specs.Reading.{counted, number_at, from_one, number_from_one, this_word, line_ends, name_at, in_lines, memory_line, in_memory, address_at, address_line, value_line, seeded, choose_at, framed, frames_at, shape_at, next_place, place_at, has_number, new_number, board_number_at, known_name, table_name_at, board_front, board_table, board_back, board_spec, board_line, one_address, access_parts, access_of, access_line, new_name, head_name, head_line}
+use Rattle.setup_text.specs.Reading.{counted, number_at, from_one, number_from_one, this_word, line_ends, name_at, in_lines, memory_line, in_memory, address_at, address_line, value_line, seeded, choose_at, framed, frames_at, shape_at, next_place, place_at, has_number, new_number, board_number_at, known_name, table_name_at, board_front, board_table, board_back, one_address, access_parts, access_of, access_line, new_name, head_name, head_line}
 use Rattle.setup_text.proofs.Texts.{number_takes, number_within_again}
 
 -- ---- steps that were taken

@@ -1,5 +1,5 @@
 -- A line that is spelled is read as what it spells.
-use Rattle.std.proofs.Common.{◌≡◌, ◌≢◌, ℕ, zero, suc, ◌+◌, ◌*◌, ◌<◌, ◌≤◌, ◌^◌, ◌⊎◌, inl, inr, Bool, true, false, ◌||◌, cond, eqb, leb, ltb, List, [], ◌∷◌, ◌++◌, length, map, get_or, Option, Some, None, Result, Ok, Err, refl, sym, ap, subst, ◌∙◌, arith}
+use Rattle.std.proofs.Common.{◌≡◌, ℕ, ◌+◌, ◌*◌, ◌<◌, ◌≤◌, ◌^◌, Bool, true, false, ltb, List, [], ◌∷◌, ◌++◌, length, map, Some, None, Ok, refl, arith}
 use Rattle.std.specs.Prelude.{codes, decimal}
 use Rattle.std.proofs.lemmas.Bool.{le-leb, lt-ltb, ne_eqb, eq-eqb, ltb-true}
 use Rattle.std.proofs.Math.Nat.{mul-le-mul_left}
@@ -8,7 +8,6 @@ use Rattle.fb_text.specs.Places.{Words}
 use Rattle.fb_text.proofs.Decimal.{number_again}
 use Rattle.bus_signals.specs.declared.Access.{Access}
 use Rattle.bus_signals.specs.declared.Access.TheVariants.{Read, Write, Pass, Flush}
-use Rattle.bus_signals.specs.declared.LocalEvent.{LocalEvent}
 use Rattle.bus_signals.specs.declared.LocalEvent.TheVariants as events
 use Rattle.bus_signals.specs.Accesses.{kind_of, address_of}
 use Rattle.class_words.specs.Words.{local_event_word}
@@ -21,12 +20,10 @@ use Rattle.table_check.specs.declared.boards.Shape.TheVariants.{Plain, Cached}
 use Rattle.table_check.specs.declared.boards.Choose.{Choose}
 use Rattle.table_check.specs.declared.boards.Choose.TheVariants.{First, Round, Seed}
 use Rattle.table_check.specs.Setup.{Setup, access_count}
-use Rattle.table_text.specs.Reading.{◌>>=◌}
-use Rattle.setup_text.specs.declared.fault.SetupKind.{SetupKind}
 use Rattle.setup_text.specs.Spelling.{BoardText, memory_row, word_row, head_row, shape_words, choose_words, board_row, access_row, end_row, AccessFits, WordFits, ChooseFits, BoardFits}
 use Rattle.setup_text.specs.Values.{place_of, board_of}
 use Rattle.setup_text.specs.Drafts.{empty_setup, with_word, with_board, with_access, named, found_name}
-use Rattle.setup_text.specs.Reading.{Mode, start, body, in_table, ended, number_at, number_from_one, memory_line, address_at, address_line, value_line, access_line, first_line, body_line, line_at, head_name, has_number, place_at, board_number_at, board_front, board_table, table_name_at, shape_at, frames_at, board_back, choose_at, board_line}
+use Rattle.setup_text.specs.Reading.{start, body, in_table, ended, number_at, number_from_one, memory_line, address_at, address_line, value_line, access_line, first_line, body_line, line_at, head_name, has_number, place_at, board_number_at, board_front, board_table, table_name_at, shape_at, frames_at, board_back, choose_at, board_line}
 
 not_below : (n least : ℕ) → least ≤ n → ltb n least ≡ false
 not_below n least le = go (ltb n least) refl

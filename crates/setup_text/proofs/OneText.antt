@@ -1,26 +1,22 @@
 -- The lines of a setup so far, or of tables, are those of one value.
-use Rattle.std.proofs.Common.{◌≡◌, ℕ, ◌⊎◌, inl, inr, Bool, true, false, cond, List, [], ◌∷◌, ◌++◌, map, length, drop, Option, Some, None, Result, Ok, Err, refl, sym, ap, subst, ◌∙◌, append_assoc, arith}
-use Rattle.std.specs.Prelude.{codes}
-use Rattle.std.specs.Str.{bytes_eq}
+use Rattle.std.proofs.Common.{◌≡◌, ℕ, inl, inr, Bool, true, false, cond, List, [], ◌∷◌, ◌++◌, map, drop, Result, Ok, Err, refl, sym, ap, subst, ◌∙◌}
 use Rattle.fb_text.specs.Lines.{is_empty}
 use Rattle.fb_text.specs.Places.{Words}
-use Rattle.moesi_state.specs.declared.State.{State}
 use Rattle.moesi_state.specs.declared.State.TheVariants.{M, O, E, S, I}
-use Rattle.class_words.specs.Words.{state_word}
 use Rattle.class_relation.specs.Tables.{Table, empty_table}
 use Rattle.table_check.specs.Setup.{Setup}
 use Rattle.table_text.specs.declared.fault.TableKind.{TableKind}
 use Rattle.table_text.specs.Reading.{◌>>=◌, is_end, cell_line, table_line}
 use Rattle.table_text.specs.Reading as TableReading
-use Rattle.table_text.specs.Spelling.{CellLine, local, answer, cell_words, table_of, BreaksCell}
+use Rattle.table_text.specs.Spelling.{CellLine, local, answer, cell_words, BreaksCell}
 use Rattle.setup_text.specs.declared.fault.SetupKind.{SetupKind}
 use Rattle.setup_text.specs.declared.fault.SetupKind.TheVariants.{UnknownWord}
-use Rattle.setup_text.specs.Spelling.{TableText, SetupText, end_row, head_row, memory_row, open_table_rows, tables_rows, open_rows}
+use Rattle.setup_text.specs.Spelling.{TableText, SetupText, head_row, open_table_rows, tables_rows, open_rows}
 use Rattle.setup_text.specs.Values.{tables_of, setup_of}
 use Rattle.setup_text.specs.Standing.{StandsSoFar, TablesStand}
-use Rattle.setup_text.specs.Grammars.{slot_of, JudgedAs, JudgedHead, JudgedInTable, BreaksSetup, BreaksBook, kind_of}
-use Rattle.setup_text.specs.Reading.{Mode, start, body, in_table, ended, BookMode, whole, within, head_line, table_head, body_line, line_at, as_setup_kind, after_table_line, book_line, after_book_line, this_word}
-use Rattle.setup_text.proofs.LineWords.{binds, ok_same}
+use Rattle.setup_text.specs.Grammars.{slot_of, JudgedAs, JudgedHead, BreaksSetup, BreaksBook, kind_of}
+use Rattle.setup_text.specs.Reading.{Mode, start, body, in_table, BookMode, whole, within, head_line, body_line, as_setup_kind, after_table_line, after_book_line}
+use Rattle.setup_text.proofs.LineWords.{ok_same}
 use Rattle.setup_text.proofs.SetupAgain.{rows_at, rows_append, so_far_runs}
 use Rattle.setup_text.proofs.Books as books
 

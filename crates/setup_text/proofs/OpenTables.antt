@@ -1,5 +1,5 @@
 -- The first fault of a table that is open in a text of several.
-use Rattle.std.proofs.Common.{◌≡◌, ℕ, ◌+◌, ◌<◌, ◌⊎◌, inl, inr, Bool, true, false, cond, ◌&&◌, List, [], ◌∷◌, ◌++◌, map, length, drop, Option, Some, None, Result, Ok, Err, refl, sym, ap, subst, ◌∙◌, append_assoc, arith}
+use Rattle.std.proofs.Common.{◌≡◌, ℕ, inl, inr, Bool, true, false, cond, ◌&&◌, List, [], ◌∷◌, ◌++◌, map, drop, Option, Some, None, Result, Ok, Err, refl, sym, ap, subst, ◌∙◌, append_assoc, arith}
 use Rattle.std.specs.Prelude.{codes}
 use Rattle.std.specs.Str.{bytes_eq}
 use Rattle.std.specs.List.{AllByRecursion}
@@ -14,8 +14,8 @@ use Rattle.class_relation.specs.Tables.{Table, empty_table}
 use Rattle.table_text.specs.declared.fault.TableKind.{TableKind}
 use Rattle.table_text.specs.declared.fault.TableKind.TheVariants as table_kinds
 use Rattle.table_text.specs.Reading.{◌>>=◌, is_end, line_ends, cell_line, table_line}
-use Rattle.table_text.specs.Spelling.{CellLine, local, answer, cell_words, HasAlternative, HasLine, BreaksCell, entered, all_entered, table_of}
-use Rattle.table_text.specs.Correct.{CanStand, AllStand}
+use Rattle.table_text.specs.Spelling.{CellLine, local, answer, cell_words, HasAlternative, BreaksCell, entered, all_entered, table_of}
+use Rattle.table_text.specs.Correct.{CanStand}
 use Rattle.table_text.proofs.Alternatives.{is_word}
 use Rattle.table_text.proofs.Bars.{FewBars, few_total}
 use Rattle.table_text.proofs.Marks.{Marks, marks_push, marks_empty}
@@ -24,9 +24,9 @@ use Rattle.table_text.proofs.Sides.{IsHard, cell_dead}
 use Rattle.table_text.proofs.CellStops.{BeginsCell, WhyCell, IsNew, cell_stops}
 use Rattle.table_text.proofs.FirstFaults.{free_front, new_row, few_row}
 use Rattle.setup_text.specs.declared.fault.SetupKind.{SetupKind}
-use Rattle.setup_text.specs.declared.fault.SetupKind.TheVariants.{UnknownWord, NoCell}
-use Rattle.setup_text.specs.Spelling.{TableText, end_row}
-use Rattle.setup_text.specs.Grammars.{slot_of, wants_number, has_front, cell_front, unfit_word, unfit_end, kind_of, UnfitText}
+use Rattle.setup_text.specs.declared.fault.SetupKind.TheVariants.{UnknownWord}
+use Rattle.setup_text.specs.Spelling.{end_row}
+use Rattle.setup_text.specs.Grammars.{has_front, cell_front, unfit_word, unfit_end, kind_of, UnfitText}
 use Rattle.setup_text.proofs.Follows.{InTable, cell, closes}
 
 abbrev ended_by : Table → Result (Unit {0}) TableKind → Result (Bool × Table) TableKind

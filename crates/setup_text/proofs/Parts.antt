@@ -1,7 +1,6 @@
 -- What stands of a setup so far: its parts, line by line.
-use Rattle.std.proofs.Common.{◌≡◌, ◌≢◌, ℕ, zero, suc, ◌+◌, ◌-◌, ◌*◌, ◌/◌, ◌<◌, ◌≤◌, ◌^◌, Bool, true, false, cond, List, [], ◌∷◌, ◌++◌, map, length, get_or, set, replicate, Option, Some, None, refl, sym, ap, subst, ◌∙◌, append_assoc, arith, All, AllPairs}
+use Rattle.std.proofs.Common.{◌≡◌, ℕ, ◌+◌, ◌*◌, ◌/◌, ◌<◌, ◌≤◌, ◌^◌, false, List, [], ◌∷◌, ◌++◌, map, length, set, replicate, None, refl, sym, ap, subst, ◌∙◌, append_assoc, arith, All}
 use Rattle.std.specs.List.{AllByRecursion, flat_map}
-use Rattle.std.specs.Str.{bytes_eq}
 use Rattle.std.proofs.lemmas.List.{length-set, length-append, length-map, map-append, append-nil, length-replicate}
 use Rattle.std.proofs.lemmas.List.Elements.{All-set, All-replicate}
 use Rattle.fb_text.specs.Places.{Words}
@@ -11,14 +10,13 @@ use Rattle.class_relation.specs.Tables.{Table, empty_table}
 use Rattle.table_check.specs.declared.boards.BoardSpec.{BoardSpec}
 use Rattle.table_check.specs.Setup.{Setup, WellFormed, line_count, access_count}
 use Rattle.table_check.specs.Setup as checked
-use Rattle.table_text.specs.Spelling.{CellLine, cell_words, entered, all_entered, table_of, HasAlternative}
-use Rattle.table_text.specs.Correct.{CanStand, AllStand}
-use Rattle.setup_text.specs.Spelling.{TableText, BoardText, SetupText, end_row, memory_row, word_row, head_row, board_row, access_row, open_table_rows, table_rows, board_rows, tables_rows, open_rows, AccessFits, WordFits, TableFits, BoardFits, SetupFits}
-use Rattle.setup_text.specs.Values.{words_set, memory_of, tables_of, names_of, place_of, board_of, setup_of}
-use Rattle.setup_text.specs.Standing.{CellsStand, InPlaces, StandsSoFar, SetupStands, TablesStand}
-use Rattle.setup_text.specs.Drafts.{named, found_name, with_word, with_table, with_board, with_access, IsDraft, AreTables}
+use Rattle.table_text.specs.Spelling.{CellLine, entered, all_entered, table_of}
+use Rattle.setup_text.specs.Spelling.{TableText, BoardText, SetupText, memory_row, word_row, board_row, access_row, table_rows, board_rows, tables_rows, open_rows, AccessFits, WordFits, TableFits, BoardFits}
+use Rattle.setup_text.specs.Values.{words_set, memory_of, tables_of, board_of, setup_of}
+use Rattle.setup_text.specs.Standing.{CellsStand, InPlaces, StandsSoFar, SetupStands}
+use Rattle.setup_text.specs.Drafts.{named, found_name, with_board, with_access, IsDraft, AreTables}
 use Rattle.setup_text.specs.Reading.{has_number}
-use Rattle.setup_text.proofs.Growing.{each_push, each_before, all_before, pairs_before, board_keeps, board_before, access_before, access_at_end}
+use Rattle.setup_text.proofs.Growing.{each_push, each_before, board_keeps, board_before, access_before, access_at_end}
 use Rattle.setup_text.proofs.Drafts.{tables_push, access_keeps}
 
 abbrev pub text : ℕ → List (ℕ × ℕ) → List TableText → List BoardText → SetupText
@@ -129,14 +127,17 @@ pub before_word : (n : ℕ) (ws : List (ℕ × ℕ)) (w : ℕ × ℕ) → Stands
 before_word n ws w s =
     let lines = lines_of_draft (text n (ws ++ w ∷ []) [] []) s.sound in
     let words = each_before WordFits ws w s.fits.words in
-    let low = each_before (λ w. w.0 < 4 * n) ws w s.addresses in
-    (record {
-      fits = record { lines = s.fits.lines; words = words.0; tables = tt; boards = tt };
-      addresses = low.0;
-      cells = tt;
-      places = tt;
-      sound = no_boards_draft n ws [] lines.0 lines.1 words.0 no_tables;
-    }, words.1, low.1)
+    let low = each_before (λ w. w.0 < 4 * n) ws w s.addresses in (
+      record {
+        fits = record { lines = s.fits.lines; words = words.0; tables = tt; boards = tt };
+        addresses = low.0;
+        cells = tt;
+        places = tt;
+        sound = no_boards_draft n ws [] lines.0 lines.1 words.0 no_tables;
+      },
+      words.1,
+      low.1,
+    )
 
 -- ---- a table
 
@@ -208,14 +209,18 @@ pub before_board : (n : ℕ) (ws : List (ℕ × ℕ)) (ts : List TableText) (bs 
 before_board n ws ts bs b none s =
     let fits = each_before BoardFits bs b s.fits.boards in
     let places = places_before 1 bs b s.places in
-    let draft = subst IsDraft (setup_board n ws ts bs b none) s.sound in
-    (record {
-      fits = record { lines = s.fits.lines; words = s.fits.words; tables = s.fits.tables; boards = fits.0 };
-      addresses = s.addresses;
-      cells = s.cells;
-      places = places.0;
-      sound = board_before (setup_of (text n ws ts bs)) (spec_of ts b) draft;
-    }, fits.1, omega (arith, places.1), draft)
+    let draft = subst IsDraft (setup_board n ws ts bs b none) s.sound in (
+      record {
+        fits = record { lines = s.fits.lines; words = s.fits.words; tables = s.fits.tables; boards = fits.0 };
+        addresses = s.addresses;
+        cells = s.cells;
+        places = places.0;
+        sound = board_before (setup_of (text n ws ts bs)) (spec_of ts b) draft;
+      },
+      fits.1,
+      omega (arith, places.1),
+      draft,
+    )
 
 -- ---- an access
 
@@ -263,14 +268,18 @@ before_access n ws ts bs b a s =
     let front : List (List Access) = map (λ (b : BoardText). b.script) bs in
     let draft : IsDraft (record { memory = memory_of n ws; tables = tables_of ts; boards = map (board_of (tables_of ts)) (bs ++ b ∷ []); scripts = front ++ (b.script ++ a ∷ []) ∷ [] }) =
     subst IsDraft (λ i. record { memory = memory_of n ws; tables = tables_of ts; boards = boards_end ts bs (and_access b a) b refl i; scripts = scripts_end bs (and_access b a) i }) s.sound in
-    let before = access_before (setup_of (text n ws ts (bs ++ b ∷ []))) front b.script a (scripts_end bs b) draft in
-    (record {
-      fits = record { lines = s.fits.lines; words = s.fits.words; tables = s.fits.tables; boards = each_push BoardFits bs b boards.0 one.0 };
-      addresses = s.addresses;
-      cells = s.cells;
-      places = places_same 1 bs (and_access b a) b refl s.places;
-      sound = before.0;
-    }, one.1, before.1, before.2)
+    let before = access_before (setup_of (text n ws ts (bs ++ b ∷ []))) front b.script a (scripts_end bs b) draft in (
+      record {
+        fits = record { lines = s.fits.lines; words = s.fits.words; tables = s.fits.tables; boards = each_push BoardFits bs b boards.0 one.0 };
+        addresses = s.addresses;
+        cells = s.cells;
+        places = places_same 1 bs (and_access b a) b refl s.places;
+        sound = before.0;
+      },
+      one.1,
+      before.1,
+      before.2,
+    )
 
 -- ---- whole setups
 

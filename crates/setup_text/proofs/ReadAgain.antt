@@ -1,5 +1,5 @@
 -- What is spelled as a setup is read, and a setup that is written is read again.
-use Rattle.std.proofs.Common.{◌≡◌, ℕ, ◌+◌, List, [], ◌∷◌, ◌++◌, length, map, Result, Ok, Err, refl, sym, ap, ◌∙◌, arith}
+use Rattle.std.proofs.Common.{◌≡◌, ℕ, ◌+◌, List, [], ◌∷◌, ◌++◌, length, map, Result, Ok, Err, sym, ap, ◌∙◌, arith}
 use Rattle.fb_text.specs.Lines.{lines}
 use Rattle.fb_text.specs.Unread.{Line, unread, numbered}
 use Rattle.fb_text.specs.Places.{Words, text_end, items, lines_items, lines_places, text_places}

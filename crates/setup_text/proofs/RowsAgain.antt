@@ -1,7 +1,7 @@
 -- Lines that are spelled are read as what they spell, line after line and part after part.
-use Rattle.std.proofs.Common.{◌≡◌, ◌≢◌, ℕ, zero, suc, ◌+◌, ◌-◌, ◌*◌, ◌<◌, ◌≤◌, ◌^◌, Bool, true, false, not, ◌||◌, cond, eqb, List, [], ◌∷◌, ◌++◌, length, map, get_or, set, replicate, Option, Some, None, Result, Ok, Err, refl, sym, ap, subst, ◌∙◌, append_assoc, arith}
-use Rattle.std.specs.Prelude.{codes, sum_by, All, AllPairs, slice_set}
-use Rattle.std.specs.List.{flat_map, AllByRecursion, list_any}
+use Rattle.std.proofs.Common.{◌≡◌, ◌≢◌, ℕ, suc, ◌+◌, ◌-◌, ◌*◌, ◌<◌, ◌≤◌, Bool, true, false, not, ◌||◌, cond, eqb, List, [], ◌∷◌, ◌++◌, length, map, get_or, replicate, Some, None, Result, Ok, Err, refl, sym, ap, subst, ◌∙◌, append_assoc, arith}
+use Rattle.std.specs.Prelude.{sum_by, All, AllPairs, slice_set}
+use Rattle.std.specs.List.{flat_map, AllByRecursion}
 use Rattle.std.specs.Str.{bytes_eq}
 use Rattle.std.proofs.lemmas.Bool.{eqb-true}
 use Rattle.std.proofs.lemmas.List.{append-nil, length-append, length-set, length-map, length-replicate}
@@ -9,7 +9,6 @@ use Rattle.std.proofs.lemmas.List.Sums.{sum_by-cons, sum_by-append}
 use Rattle.std.proofs.lemmas.Slice.Eq.{bytes_eq-Decides}
 use Rattle.std.proofs.Math.ListN.{get_or-append}
 use Rattle.fb_text.specs.Places.{Words}
-use Rattle.fb_text.specs.Unread.{Line}
 use Rattle.bus_signals.specs.declared.Access.{Access}
 use Rattle.bus_signals.specs.Accesses.{address_of}
 use Rattle.moesi_state.specs.declared.State.{State}
@@ -22,17 +21,17 @@ use Rattle.table_check.specs.Reached.{Reached, is_reached}
 use Rattle.table_check.specs.Setup.{Setup, WellFormed, access_count}
 use Rattle.table_check.specs.Setup as checked
 use Rattle.table_check.proofs.Reaching.{test-reached}
-use Rattle.table_text.specs.Reading.{◌>>=◌, table_line}
+use Rattle.table_text.specs.Reading.{◌>>=◌}
 use Rattle.table_text.specs.Spelling.{CellLine, cell_words, entered, all_entered, table_of}
 use Rattle.table_text.specs.Correct.{AllStand}
 use Rattle.table_text.proofs.TableLaws.{HasAllCells, empty_whole, entered_whole}
 use Rattle.table_text.proofs.Again.{line_again, end_again}
 use Rattle.setup_text.specs.declared.fault.SetupKind.{SetupKind}
 use Rattle.setup_text.specs.Spelling.{TableText, BoardText, SetupText, end_row, memory_row, word_row, head_row, board_row, access_row, table_rows, tables_rows, board_rows, setup_rows, WordFits, AccessFits, TableFits, BoardFits}
-use Rattle.setup_text.specs.Values.{words_set, memory_of, tables_of, place_of, board_of, setup_of}
+use Rattle.setup_text.specs.Values.{words_set, tables_of, place_of, board_of, setup_of}
 use Rattle.setup_text.specs.Correct.{CellsStand, InPlaces, SetupStands}
 use Rattle.setup_text.specs.Drafts.{empty_setup, with_word, with_table, with_board, with_access, access_added, named, found_name, stays_invalid}
-use Rattle.setup_text.specs.Reading.{Mode, start, body, in_table, ended, line_at, has_number}
+use Rattle.setup_text.specs.Reading.{start, body, in_table, ended, line_at, has_number}
 use Rattle.setup_text.proofs.TableLines.{entered_name}
 use Rattle.setup_text.proofs.WrittenWords.{each}
 use Rattle.setup_text.proofs.LinesAgain.{IsFramed, lines_read, word_read, access_read, end_read, head_read, board_read}

@@ -1,15 +1,14 @@
 -- Schedules: what is read is spelled so, what is spelled so is read, and the first fault.
-use Rattle.std.proofs.Common.{◌≡◌, ℕ, ◌+◌, ◌<◌, ◌≤◌, ◌^◌, Bool, true, false, cond, eqb, List, [], ◌∷◌, ◌++◌, map, length, Option, Some, None, Result, Ok, Err, refl, sym, ap, subst, ◌∙◌, append_assoc, inl, inr, arith}
+use Rattle.std.proofs.Common.{◌≡◌, ℕ, ◌<◌, ◌≤◌, Bool, true, false, cond, eqb, List, [], ◌∷◌, ◌++◌, map, length, Some, Result, Ok, Err, refl, sym, ap, subst, ◌∙◌, append_assoc, inr, arith}
 use Rattle.std.specs.Prelude.{decimal, IfOk, IfErr}
-use Rattle.std.specs.List.{AllByRecursion, flat_map}
+use Rattle.std.specs.List.{AllByRecursion}
 use Rattle.std.proofs.lemmas.Bool.{eqb-true, eqb-false}
 use Rattle.std.proofs.lemmas.List.{append-nil, map-append}
 use Rattle.fb_text.specs.declared.fault.TextKind.{TextKind}
 use Rattle.fb_text.specs.Number.{number_of}
-use Rattle.fb_text.specs.Places.{Words, Item, Place, word, text_end, items, line_items, lines_items, line_places, lines_places, text_places, IsFault, FirstFault, BreaksAtWord}
-use Rattle.fb_text.specs.Unread.{Line, Unread, number_within, unread}
-use Rattle.fb_text.proofs.LineItems.{from, item_at}
-use Rattle.fb_text.proofs.LineLaws.{IsClosing, BeginsLine, HasNext, NoLine, FreeFront, FaultBehind, first_fault, stops_in_line, behind_line, unfit_fault}
+use Rattle.fb_text.specs.Places.{Words, Item, Place, text_end, items, lines_items, line_places, lines_places, text_places, BreaksAtWord}
+use Rattle.fb_text.specs.Unread.{Line, number_within, unread}
+use Rattle.fb_text.proofs.LineLaws.{IsClosing, BeginsLine, NoLine, FaultBehind, first_fault, stops_in_line, behind_line, unfit_fault}
 use Rattle.table_text.specs.Reading.{◌>>=◌}
 use Rattle.setup_text.specs.declared.fault.SetupKind.{SetupKind}
 use Rattle.setup_text.specs.declared.fault.SetupKind.TheVariants.{Number}

@@ -1,9 +1,9 @@
 -- Each line of a setup that stands is read as what it spells.
-use Rattle.std.proofs.Common.{◌≡◌, ◌≢◌, ℕ, zero, suc, ◌+◌, ◌-◌, ◌*◌, ◌<◌, ◌≤◌, ◌^◌, ◌⊎◌, inl, inr, Bool, true, false, cond, ltb, eqb, List, [], ◌∷◌, ◌++◌, map, length, get_or, Option, Some, None, Result, Ok, Err, refl, sym, ap, subst, ◌∙◌, append_assoc, arith}
+use Rattle.std.proofs.Common.{◌≡◌, ◌≢◌, ℕ, zero, suc, ◌+◌, ◌*◌, ◌<◌, ◌≤◌, ◌⊎◌, inl, inr, Bool, true, false, cond, List, [], ◌∷◌, ◌++◌, map, length, get_or, Some, None, Result, Ok, Err, refl, sym, ap, subst, ◌∙◌, append_assoc, arith}
 use Rattle.std.specs.Prelude.{codes, decimal}
 use Rattle.std.specs.List.{AllByRecursion}
 use Rattle.std.specs.Str.{bytes_eq}
-use Rattle.std.proofs.lemmas.Bool.{ltb-true, lt-ltb, ltb-false}
+use Rattle.std.proofs.lemmas.Bool.{lt-ltb}
 use Rattle.std.proofs.lemmas.List.{length-append, length-map, map-append, append-nil, get_or_append_left}
 use Rattle.std.proofs.lemmas.Slice.Eq.{bytes_eq-Decides}
 use Rattle.fb_text.specs.Lines.{is_empty}
@@ -15,34 +15,30 @@ use Rattle.moesi_state.specs.declared.State.TheVariants.{M, O, E, S, I}
 use Rattle.bus_signals.specs.declared.Access.{Access}
 use Rattle.bus_signals.specs.declared.LocalEvent.{LocalEvent}
 use Rattle.bus_signals.specs.declared.LocalEvent.TheVariants as events
-use Rattle.bus_signals.specs.Accesses.{address_of}
 use Rattle.class_words.specs.Words.{local_event_word, local_event_of}
-use Rattle.class_words.proofs.WordLaws.{local_event_again}
 use Rattle.class_relation.specs.Tables.{Table, empty_table}
 use Rattle.table_check.specs.declared.boards.BoardSpec.{BoardSpec}
-use Rattle.table_check.specs.declared.boards.Choose.{Choose}
 use Rattle.table_check.specs.declared.boards.Shape.{Shape}
 use Rattle.table_check.specs.declared.boards.Shape.TheVariants.{Plain, Cached}
 use Rattle.table_check.specs.Reached.{Reached, is_reached}
 use Rattle.table_check.specs.Setup.{Setup, access_count}
 use Rattle.table_check.specs.Setup as checked
-use Rattle.table_check.proofs.Reaching.{reached-test, test-reached}
-use Rattle.table_text.specs.Reading.{◌>>=◌, table_line}
+use Rattle.table_check.proofs.Reaching.{test-reached}
+use Rattle.table_text.specs.Reading.{◌>>=◌}
 use Rattle.table_text.specs.Spelling.{CellLine, cell_words, entered, all_entered, table_of}
-use Rattle.table_text.specs.Correct.{CanStand, AllStand}
+use Rattle.table_text.specs.Correct.{AllStand}
 use Rattle.table_text.proofs.TableLaws.{HasAllCells, entered_whole, empty_whole}
 use Rattle.table_text.proofs.Again.{line_again, end_again}
 use Rattle.setup_text.specs.declared.fault.SetupKind.{SetupKind}
-use Rattle.setup_text.specs.Spelling.{TableText, BoardText, SetupText, end_row, memory_row, word_row, head_row, board_row, access_row, shape_words, choose_words, open_table_rows, table_rows, board_rows, tables_rows, open_rows, setup_rows, ShapeFits, AccessFits, WordFits, TableFits, BoardFits, SetupFits}
+use Rattle.setup_text.specs.Spelling.{TableText, BoardText, SetupText, end_row, memory_row, word_row, head_row, board_row, access_row, shape_words, choose_words, open_table_rows, table_rows, board_rows, tables_rows, open_rows, setup_rows, WordFits, TableFits}
 use Rattle.setup_text.specs.Values.{memory_of, tables_of, place_of, board_of, setup_of}
-use Rattle.setup_text.specs.Standing.{CellsStand, InPlaces, StandsSoFar, SetupStands}
-use Rattle.setup_text.specs.Drafts.{named, further, found_name, stays_invalid, with_word, with_table, with_board, with_access, IsDraft, AreTables, IsKnown, IsShape}
-use Rattle.setup_text.specs.Reading.{Mode, start, body, in_table, ended, Fault, on_line, has_number, first_line, body_line, as_setup_kind, after_table_line, line_at, lines_at, text_ends, board_line, board_spec, board_added, access_read}
-use Rattle.setup_text.proofs.LineWords.{memory_reads, value_line_reads, WritesAccess, access_reads, shape_reads, front_reads, table_reads, back_reads, head_reads}
+use Rattle.setup_text.specs.Standing.{CellsStand, StandsSoFar}
+use Rattle.setup_text.specs.Drafts.{named, found_name, stays_invalid, with_table, with_board, AreTables, IsShape}
+use Rattle.setup_text.specs.Reading.{Mode, start, body, in_table, ended, on_line, has_number, first_line, body_line, line_at, lines_at, text_ends, board_line, access_read}
+use Rattle.setup_text.proofs.LineWords.{memory_reads, value_line_reads, access_reads, shape_reads, front_reads, table_reads, back_reads, head_reads}
 use Rattle.setup_text.proofs.Naming.{found_known}
-use Rattle.setup_text.proofs.Growing.{each_push, each_before, all_last, pairs_last, new_number_is}
-use Rattle.setup_text.proofs.Parts.{text, table_text, and_access, rows_word, rows_table, rows_board, rows_access, set_push, memory_long, before_word, TableStands, table_name, tables_append, spec_of, setup_board, before_board, setup_access, before_access, lines_of_draft, so_far}
-use Rattle.setup_text.proofs.SetupLines.{found_place, table_whole, entered_push}
+use Rattle.setup_text.proofs.Growing.{all_last, pairs_last, new_number_is}
+use Rattle.setup_text.proofs.Parts.{text, and_access, rows_board, rows_access, set_push, memory_long, TableStands, table_name, tables_append, spec_of, setup_board, before_board, setup_access, before_access, lines_of_draft}
 
 -- ---- a run over rows
 
@@ -144,8 +140,13 @@ board_again n ws ts bs b none s =
     let new : has_number boards b.number ≡ false = new_number_is boards b.number (λ k d low. pairs_last (λ (a c : BoardSpec). a.number ≢ c.number) boards (spec_of ts b) d draft.numbers k low) in
     let place : decimal b.place ≡ decimal (length boards + 1) = ap decimal (before.2 ∙ ap (λ (x : ℕ). x + 1) (sym count)) in
     let line : board_line (setup_of (text n ws ts bs)) (decimal b.place ∷ codes "number" ∷ decimal b.number ∷ codes "table" ∷ b.table ∷ (shape_words b.shape ++ codes "choose" ∷ choose_words b.choose)) ≡ Ok (spec_of ts b) =
-    rw (place, front_reads boards b.number (codes "table" ∷ b.table ∷ (shape_words b.shape ++ codes "choose" ∷ choose_words b.choose)) few fits.number.0 fits.number.1 new, table_reads (tables_of ts) b.table (place_of (tables_of ts) b.table, known.0) (shape_words b.shape ++ codes "choose" ∷ choose_words b.choose) fits.table known.1,
-    shape_reads known.0 b.shape (codes "choose" ∷ choose_words b.choose) fits.shape shape, back_reads b.choose fits.choose) refl in
+    rw (
+      place,
+      front_reads boards b.number (codes "table" ∷ b.table ∷ (shape_words b.shape ++ codes "choose" ∷ choose_words b.choose)) few fits.number.0 fits.number.1 new,
+      table_reads (tables_of ts) b.table (place_of (tables_of ts) b.table, known.0) (shape_words b.shape ++ codes "choose" ∷ choose_words b.choose) fits.table known.1,
+      shape_reads known.0 b.shape (codes "choose" ∷ choose_words b.choose) fits.shape shape,
+      back_reads b.choose fits.choose,
+    ) refl in
     rw (lt-ltb (length boards) 16 few, line) (ap (λ (x : Setup). Ok (body x)) (sym (setup_board n ws ts bs b none)))
 
 -- ---- an access

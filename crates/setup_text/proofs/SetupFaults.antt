@@ -1,11 +1,9 @@
 -- The first fault of a setup's text.
-use Rattle.std.proofs.Common.{◌≡◌, ℕ, ◌+◌, ◌<◌, ◌≤◌, ◌^◌, ◌⊎◌, inl, inr, Bool, true, false, cond, ◌||◌, ltb, eqb, List, [], ◌∷◌, ◌++◌, map, length, Option, Some, None, Result, Ok, Err, refl, sym, ap, subst, ◌∙◌, append_assoc, arith}
+use Rattle.std.proofs.Common.{◌≡◌, ℕ, ◌<◌, ◌≤◌, ◌^◌, ◌⊎◌, inl, inr, Bool, true, false, cond, ◌||◌, ltb, eqb, List, [], ◌∷◌, ◌++◌, map, Option, Some, None, Result, Ok, Err, refl, sym, ap, subst, ◌∙◌, append_assoc, arith}
 use Rattle.std.specs.Prelude.{codes, decimal, IfErr}
 use Rattle.std.specs.List.{AllByRecursion}
-use Rattle.std.specs.Str.{bytes_eq}
 use Rattle.std.proofs.lemmas.Bool.{ltb-true, ltb-false, eqb-true, eqb-false}
-use Rattle.std.proofs.lemmas.List.{append-nil}
-use Rattle.fb_text.specs.Places.{Words, Item, Place, word, line_end, text_end, items, lines_items, line_places, lines_places, text_places, IsFault, IsFine, FirstFault, BreaksAtWord}
+use Rattle.fb_text.specs.Places.{Words, Item, Place, word, line_end, text_end, lines_items, line_places, lines_places, text_places, IsFine}
 use Rattle.fb_text.specs.Unread.{Line, unread}
 use Rattle.fb_text.proofs.LineItems.{from, item_at}
 use Rattle.fb_text.proofs.LineLaws.{BeginsLine, HasNext, NoLine, FreeFront, FaultBehind, first_fault, stops_in_line, behind_line, text_stops, unfit_fault, judged_fault}
@@ -15,23 +13,22 @@ use Rattle.table_text.specs.declared.fault.TableKind.{TableKind}
 use Rattle.table_text.specs.Reading.{◌>>=◌, table_line}
 use Rattle.table_text.specs.Spelling.{CellLine, cell_words, HasAlternative, BreaksCell, table_of}
 use Rattle.table_text.specs.Correct.{CanStand}
-use Rattle.table_text.proofs.TableLaws.{IsCellLine, table_line_takes}
+use Rattle.table_text.proofs.TableLaws.{table_line_takes}
 use Rattle.setup_text.specs.declared.fault.LimitOf.TheVariants.{Lines}
 use Rattle.setup_text.specs.declared.fault.SetupKind.{SetupKind}
 use Rattle.setup_text.specs.declared.fault.SetupKind.TheVariants.{UnknownWord, Number, NoEnd, Limit}
 use Rattle.setup_text.specs.declared.fault.SetupFault.{SetupFault}
 use Rattle.setup_text.specs.declared.fault.SetupFault.TheVariants as faults
 use Rattle.setup_text.specs.Spelling.{TableText, BoardText, SetupText, end_row, memory_row, open_table_rows, open_rows, setup_rows, TableFits, SetupFits}
-use Rattle.setup_text.specs.Values.{tables_of, setup_of}
-use Rattle.setup_text.specs.Standing.{StandsSoFar}
+use Rattle.setup_text.specs.Values.{setup_of}
 use Rattle.setup_text.specs.Grammars.{setup_grammar, BreaksSetup, JudgedLines, UnfitText, unfit_word, unfit_end, kind_of}
 use Rattle.setup_text.specs.Correct.{IsFirstFault}
 use Rattle.setup_text.specs.Drafts.{empty_setup}
-use Rattle.setup_text.specs.Reading.{Mode, start, body, in_table, ended, Fault, Answers, on_line, number_at, in_lines, this_word, line_ends, memory_line, first_line, as_setup_kind, after_table_line, line_at, lines_at, text_ends, setup_at}
-use Rattle.setup_text.proofs.LineWords.{Binds, binds, number_read, word_read, memory_read}
+use Rattle.setup_text.specs.Reading.{Mode, body, Fault, Answers, on_line, number_at, in_lines, this_word, line_ends, memory_line, first_line, as_setup_kind, after_table_line, line_at, lines_at, text_ends, setup_at}
+use Rattle.setup_text.proofs.LineWords.{binds, number_read, word_read, memory_read}
 use Rattle.setup_text.proofs.Growing.{each_push}
-use Rattle.setup_text.proofs.Parts.{text, table_text, rows_table, TableStands}
-use Rattle.setup_text.proofs.SetupLines.{Part, begin, so_far, opened, closed, mode_of, rows_of, OpenStands, Good, Grows, line_takes, table_whole}
+use Rattle.setup_text.proofs.Parts.{text, table_text, rows_table}
+use Rattle.setup_text.proofs.SetupLines.{Part, begin, so_far, opened, closed, mode_of, rows_of, OpenStands, Good, line_takes, table_whole}
 use Rattle.setup_text.proofs.Books.{rows_close, rows_cell}
 use Rattle.setup_text.proofs.Follows.{InTable, Next, follows_open, nothing_follows}
 use Rattle.setup_text.proofs.OneText.{breaks_open}
@@ -197,9 +194,12 @@ module _ (n : ℕ) (ws : List (ℕ × ℕ)) (ts : List TableText) (t : TableText
   next_cell c some =
       let table = h.table in
       let fits = table.fits in
-      let u = table_text t.name (t.cells ++ c ∷ []) in
-      (text n ws (ts ++ u ∷ []) [], end_row ∷ end_row ∷ [], fits_with u (record { name = fits.name; cells = each_push HasAlternative t.cells c fits.cells some }),
-      ap (λ (x : List Words). x ++ end_row ∷ []) (rows_table n ws ts u ∙ (rows_close (open_rows (text n ws ts [])) u ∙ ap (λ (x : List Words). x ++ end_row ∷ []) (rows_cell (open_rows (text n ws ts [])) t.name t.cells c))) ∙ rows_more Done (cell_words c))
+      let u = table_text t.name (t.cells ++ c ∷ []) in (
+        text n ws (ts ++ u ∷ []) [],
+        end_row ∷ end_row ∷ [],
+        fits_with u (record { name = fits.name; cells = each_push HasAlternative t.cells c fits.cells some }),
+        ap (λ (x : List Words). x ++ end_row ∷ []) (rows_table n ws ts u ∙ (rows_close (open_rows (text n ws ts [])) u ∙ ap (λ (x : List Words). x ++ end_row ∷ []) (rows_cell (open_rows (text n ws ts [])) t.name t.cells c))) ∙ rows_more Done (cell_words c),
+      )
 
   breaking : (words : Words) (here : List ℕ) (tk : TableKind) → BreaksCell (map cell_words t.cells) words here tk → BreaksSetup Done words here (kind_of tk)
   breaking words here tk b = let table = h.table in inr (inr (text n ws ts [], h.so_far, record { open_table = t; fits = table.fits; parts = refl; table_kind = tk; breaks = b; kind_is = refl }))

@@ -1,47 +1,36 @@
 -- Each line of a setup: what is read is spelled so, and what is spelled so is read.
-use Rattle.std.proofs.Common.{◌≡◌, ◌≢◌, ℕ, zero, suc, ◌+◌, ◌-◌, ◌*◌, ◌<◌, ◌≤◌, ◌^◌, ◌⊎◌, inl, inr, Bool, true, false, cond, ltb, eqb, List, [], ◌∷◌, ◌++◌, map, length, get_or, Option, Some, None, Result, Ok, Err, refl, sym, ap, subst, ◌∙◌, append_assoc, arith}
+use Rattle.std.proofs.Common.{◌≡◌, ℕ, ◌+◌, ◌<◌, ◌⊎◌, inl, inr, Bool, true, false, cond, ltb, List, [], ◌∷◌, ◌++◌, map, length, Option, Some, None, Result, Ok, Err, refl, sym, ap, subst, ◌∙◌, append_assoc, arith}
 use Rattle.std.specs.Prelude.{codes, decimal}
-use Rattle.std.specs.List.{AllByRecursion}
-use Rattle.std.specs.Option.{option_map}
 use Rattle.std.specs.Str.{bytes_eq}
-use Rattle.std.proofs.lemmas.Bool.{ltb-true, lt-ltb}
-use Rattle.std.proofs.lemmas.List.{length-append, length-map, map-append, append-nil}
-use Rattle.std.proofs.lemmas.List.Elements.{All-get_or}
-use Rattle.fb_text.specs.Lines.{is_empty}
+use Rattle.std.proofs.lemmas.Bool.{ltb-true}
+use Rattle.std.proofs.lemmas.List.{length-map, map-append}
 use Rattle.fb_text.specs.Places.{Words}
 use Rattle.fb_text.proofs.LineItems.{empty_or_last}
-use Rattle.bus_signals.specs.declared.Access.{Access}
 use Rattle.bus_signals.specs.declared.LocalEvent.{LocalEvent}
-use Rattle.bus_signals.specs.Accesses.{address_of}
 use Rattle.class_words.specs.Words.{local_event_word, local_event_of}
-use Rattle.class_words.proofs.WordLaws.{local_event_is, local_event_again}
-use Rattle.class_relation.specs.Names.{is_name}
+use Rattle.class_words.proofs.WordLaws.{local_event_is}
 use Rattle.class_relation.specs.Tables.{Table, empty_table}
 use Rattle.table_check.specs.declared.boards.BoardSpec.{BoardSpec}
-use Rattle.table_check.specs.declared.boards.Choose.{Choose}
-use Rattle.table_check.specs.declared.boards.Shape.{Shape}
-use Rattle.table_check.specs.declared.boards.Shape.TheVariants.{Plain, Cached}
 use Rattle.table_check.specs.Setup.{Setup, access_count}
 use Rattle.table_check.specs.Setup as checked
 use Rattle.table_text.specs.declared.fault.TableKind.{TableKind}
 use Rattle.table_text.specs.Reading.{◌>>=◌, table_line}
 use Rattle.table_text.specs.Spelling.{CellLine, cell_words, entered, all_entered, table_of, HasAlternative}
 use Rattle.table_text.specs.Correct.{CanStand, AllStand}
-use Rattle.table_text.proofs.TableLaws.{HasAllCells, IsCellLine, table_line_takes, entered_whole, empty_whole}
-use Rattle.table_text.proofs.Again.{line_again, end_again}
-use Rattle.setup_text.specs.declared.fault.LimitOf.TheVariants.{Tables, Boards, Accesses}
+use Rattle.table_text.proofs.TableLaws.{HasAllCells, table_line_takes, entered_whole, empty_whole}
+use Rattle.setup_text.specs.declared.fault.LimitOf.TheVariants.{Boards, Accesses}
 use Rattle.setup_text.specs.declared.fault.SetupKind.{SetupKind}
 use Rattle.setup_text.specs.declared.fault.SetupKind.TheVariants.{UnknownWord, Limit}
-use Rattle.setup_text.specs.Spelling.{TableText, BoardText, SetupText, end_row, memory_row, word_row, head_row, board_row, access_row, shape_words, choose_words, open_table_rows, table_rows, board_rows, tables_rows, open_rows, setup_rows, AccessFits, WordFits, TableFits, BoardFits, SetupFits}
+use Rattle.setup_text.specs.Spelling.{TableText, BoardText, SetupText, end_row, memory_row, word_row, head_row, board_row, access_row, shape_words, open_table_rows, table_rows, open_rows, setup_rows}
 use Rattle.setup_text.specs.Values.{memory_of, tables_of, place_of, board_of, setup_of}
-use Rattle.setup_text.specs.Standing.{CellsStand, InPlaces, StandsSoFar}
-use Rattle.setup_text.specs.Drafts.{named, further, found_name, stays_invalid, with_word, with_table, with_board, with_access, empty_setup, IsDraft, IsKnown, IsShape}
-use Rattle.setup_text.specs.Reading.{Mode, start, body, in_table, ended, has_number, value_line, word_line, head_line, table_head, board_front, board_table, shape_at, board_back, board_spec, board_line, board_added, access_line, access_read, end_line, line_ends, maybe_access, body_line, this_word, memory_line, first_line, as_setup_kind, after_table_line, line_at}
-use Rattle.setup_text.proofs.LineWords.{Binds, binds, ok_same, passes, is_word, word_read, nothing_read, memory_read, memory_reads, value_line_read, value_line_reads, ReadsAccess, access_read as access_words, WritesAccess, access_reads, shape_read, shape_reads, ReadsFront, front_read, front_reads, ReadsTable, table_read, table_reads, back_read, back_reads, ReadsName, head_read, head_reads}
+use Rattle.setup_text.specs.Standing.{StandsSoFar}
+use Rattle.setup_text.specs.Drafts.{named, further, found_name, stays_invalid, with_word, with_table, with_board, with_access, empty_setup}
+use Rattle.setup_text.specs.Reading.{Mode, start, body, in_table, ended, value_line, word_line, head_line, table_head, board_front, board_table, shape_at, board_back, board_spec, board_line, board_added, access_line, access_read, end_line, line_ends, maybe_access, body_line, this_word, memory_line, first_line, as_setup_kind, after_table_line, line_at}
+use Rattle.setup_text.proofs.LineWords.{binds, ok_same, is_word, word_read, nothing_read, memory_read, value_line_read, access_read as access_words, shape_read, front_read, table_read, back_read, head_read}
 use Rattle.setup_text.proofs.Naming.{found_known}
-use Rattle.setup_text.proofs.Growing.{each_push, each_before, all_last, pairs_last, new_number_is}
-use Rattle.setup_text.proofs.Drafts.{board_fits, reach_test}
-use Rattle.setup_text.proofs.Parts.{text, table_text, and_access, rows_word, rows_table, rows_board, rows_access, set_push, memory_long, stands_memory, stands_word, before_word, TableStands, table_name, tables_append, stands_table, spec_of, setup_board, stands_board, before_board, setup_access, stands_access, before_access, lines_of_draft}
+use Rattle.setup_text.proofs.Growing.{each_push}
+use Rattle.setup_text.proofs.Drafts.{board_fits}
+use Rattle.setup_text.proofs.Parts.{text, table_text, and_access, rows_word, rows_table, rows_board, rows_access, set_push, memory_long, stands_memory, stands_word, TableStands, tables_append, stands_table, spec_of, setup_board, stands_board, setup_access, stands_access}
 
 -- ---- where reading stands, with the text so far
 
@@ -147,7 +136,6 @@ board_takes : (n : ℕ) (ws : List (ℕ × ℕ)) (ts : List TableText) (bs : Lis
 unfolding board_line
 board_takes n ws ts bs l m s e = room (ltb (length (setup_of (text n ws ts bs)).boards) 16) refl e
   where
-
     room : (b : Bool) → ltb (length (setup_of (text n ws ts bs)).boards) 16 ≡ b → cond b (board_line (setup_of (text n ws ts bs)) l >>= λ spec. Ok (body (with_board (setup_of (text n ws ts bs)) spec))) (Err (Limit Boards 17)) ≡ Ok m → Grows (so_far (text n ws ts bs)) (codes "board" ∷ l) m
     room false h e = absurd cc
     room true h e =
@@ -186,8 +174,6 @@ access_takes n ws ts bs event l m s e = go (empty_or_last bs)
         absurd cc
     go (inr (front, b, is)) = subst (λ (x : List BoardText). Grows (so_far (text n ws ts x)) (local_event_word event ∷ l) m) (sym is) (there (subst (λ (x : List BoardText). StandsSoFar (text n ws ts x)) is s) (some front b (subst (λ (x : List BoardText). access_read (setup_of (text n ws ts x)) event l ≡ Ok m) is e)))
       where
-
-
         some : (front : List BoardText) (b : BoardText) → access_read (setup_of (text n ws ts (front ++ b ∷ []))) event l ≡ Ok m → cond (ltb (access_count (setup_of (text n ws ts (front ++ b ∷ [])))) 100000) (access_line (length (setup_of (text n ws ts (front ++ b ∷ []))).memory) event l >>= λ access. Ok (body (with_access (setup_of (text n ws ts (front ++ b ∷ []))) access))) (Err (Limit Accesses 100001)) ≡ Ok m
         some [] b e = e
         some (x ∷ front) b e = e
@@ -224,7 +210,6 @@ unfolding body_line
 body_takes n ws ts bs [] m s e = absurd cc
 body_takes n ws ts bs (w ∷ l) m s e = first_test (bytes_eq w (codes "word")) refl e
   where
-
     by_word : (v : List ℕ) → bytes_eq w v ≡ true → Grows (so_far (text n ws ts bs)) (v ∷ l) m → Grows (so_far (text n ws ts bs)) (w ∷ l) m
     by_word v h g = grows_by (so_far (text n ws ts bs)) (v ∷ l) (w ∷ l) m (ap (λ (u : List ℕ). u ∷ l) (is_word w v h)) g
 
@@ -287,7 +272,6 @@ setup_table n ws ts t = ap (λ (x : List Table). record { memory = memory_of n w
 table_takes : (n : ℕ) (ws : List (ℕ × ℕ)) (ts : List TableText) (t : TableText) (l : Words) (m : Mode) → OpenStands (text n ws ts []) t → line_at (in_table (setup_of (text n ws ts [])) (table_of t.name t.cells)) l ≡ Ok m → Grows (opened (text n ws ts []) t) l m
 table_takes n ws ts t l m h e = go (table_line (table_of t.name t.cells) l) refl e
   where
-
     go : (x : Result (Bool × Table) TableKind) → table_line (table_of t.name t.cells) l ≡ x → (as_setup_kind x >>= λ t. Ok (after_table_line (setup_of (text n ws ts [])) t)) ≡ Ok m → Grows (opened (text n ws ts []) t) l m
     go (Err k) r e = absurd cc
     go (Ok (true, u)) r e =

@@ -1,23 +1,21 @@
 -- Setups: what is read is spelled so, and what is spelled so is read.
-use Rattle.std.proofs.Common.{◌≡◌, ℕ, ◌<◌, ◌≤◌, List, [], ◌∷◌, ◌++◌, map, length, Result, Ok, Err, refl, sym, ap, subst, ◌∙◌, append_assoc, arith}
+use Rattle.std.proofs.Common.{◌≡◌, ℕ, ◌<◌, ◌≤◌, List, [], ◌∷◌, ◌++◌, map, length, Result, Ok, Err, refl, sym, ap, ◌∙◌, append_assoc, arith}
 use Rattle.std.specs.Prelude.{IfOk}
 use Rattle.std.proofs.lemmas.List.{append-nil, length-map}
-use Rattle.fb_text.specs.Places.{Words, items, lines_items, text_end, text_places}
+use Rattle.fb_text.specs.Places.{Words, lines_items, text_end}
 use Rattle.fb_text.specs.Unread.{Line, unread}
 use Rattle.table_check.specs.Setup.{Setup}
 use Rattle.table_text.specs.Reading.{◌>>=◌}
 use Rattle.setup_text.specs.declared.fault.SetupKind.{SetupKind}
 use Rattle.setup_text.specs.declared.fault.SetupFault.{SetupFault}
-use Rattle.setup_text.specs.declared.fault.SetupFault.TheVariants as faults
-use Rattle.setup_text.specs.Spelling.{SetupText, setup_rows, setup_items}
+use Rattle.setup_text.specs.Spelling.{SetupText, setup_rows}
 use Rattle.setup_text.specs.Values.{tables_of, board_of, setup_of}
 use Rattle.setup_text.specs.Standing.{StandsSoFar, SetupStands}
-use Rattle.setup_text.specs.Correct.{IsSetup, IsReadAs}
-use Rattle.setup_text.specs.Reading.{Mode, start, body, in_table, ended, Fault, Answers, on_line, line_at, lines_at, text_ends, setup_at}
-use Rattle.setup_text.proofs.Texts.{text_items, same_rows}
-use Rattle.setup_text.proofs.Parts.{so_far, stands}
-use Rattle.setup_text.proofs.SetupLines.{Part, begin, so_far as part, opened, closed, mode_of, rows_of, Good, Grows, line_takes}
-use Rattle.setup_text.proofs.SetupAgain.{rows_at, setup_runs, lines_run}
+use Rattle.setup_text.specs.Correct.{IsSetup}
+use Rattle.setup_text.specs.Reading.{Mode, Answers, on_line, line_at, lines_at, text_ends, setup_at}
+use Rattle.setup_text.proofs.Texts.{text_items}
+use Rattle.setup_text.proofs.Parts.{stands}
+use Rattle.setup_text.proofs.SetupLines.{Part, begin, so_far as part, opened, closed, mode_of, rows_of, Good, line_takes}
 
 abbrev pub words_of : List Line → List Words
 words_of ls = map (λ (l : Line). l.words) ls
@@ -64,15 +62,3 @@ module _ {X : Type 0} (bytes : List ℕ) (view : X → Setup) where
       let ls = (unread bytes).lines in
       let t = lines_take begin ls (unread bytes).end (view v) tt given in
       record { spelled = t.spelled; stands = stands t.spelled t.good t.some; text = text_items ls (unread bytes).end ∙ ap (λ (x : List Words). lines_items x ++ text_end ∷ []) (sym t.rows); value = t.value }
-
-  pub is_read : (r : Result X SetupFault) → Answers view r (setup_at (unread bytes)) → (s : SetupText) → SetupStands s → items (text_places bytes) ≡ setup_items s → IsReadAs view r (setup_of s)
-  is_read r given s h e =
-      let ls = (unread bytes).lines in
-      let same = same_rows (words_of ls) (setup_rows s) (sym (text_items ls (unread bytes).end) ∙ e) in
-      let run = lines_run start (ended (setup_of s)) ls (unread bytes).end (ap (λ (x : List Words). rows_at start x) same ∙ setup_runs s (so_far s h) (boards_some s h)) in
-      go r given run
-    where
-      go : (r : Result X SetupFault) → Answers view r (setup_at (unread bytes)) → setup_at (unread bytes) ≡ Ok (setup_of s) → IsReadAs view r (setup_of s)
-      go (Ok v) given read = let both : ◌≡◌ {A = Result Setup Fault} (Ok (view v)) (Ok (setup_of s)) = sym given ∙ read in cc
-      go (Err faults.NoMemory) given read = tt
-      go (Err (faults.Bad line kind)) given read = let both : ◌≡◌ {A = Result Setup Fault} (Err (record { line = line; kind = kind })) (Ok (setup_of s)) = sym given ∙ read in absurd cc

@@ -1,16 +1,13 @@
 -- A table that was read is the lines of a text up to its end.
-use Rattle.std.proofs.Common.{◌≡◌, ℕ, suc, ◌+◌, ◌<◌, ◌≤◌, Bool, true, false, cond, List, [], ◌∷◌, ◌++◌, length, Result, Ok, Err, refl, sym, ap, subst, ◌∙◌, arith}
-use Rattle.fb_text.specs.Places.{Words}
+use Rattle.std.proofs.Common.{◌≡◌, ℕ, ◌≤◌, Bool, true, false, cond, List, [], ◌∷◌, length, Result, Ok, Err, refl, ap, subst, ◌∙◌, arith}
 use Rattle.fb_text.specs.Unread.{Unread, Line}
 use Rattle.class_relation.specs.Tables.{Table, empty_table}
 use Rattle.table_text.specs.declared.fault.TableKind.{TableKind}
-use Rattle.table_text.specs.Spelling.{CellLine, local, answer, entered, all_entered, table_of}
+use Rattle.table_text.specs.Spelling.{CellLine, local, answer, entered, all_entered}
 use Rattle.table_text.specs.Correct.{IsTable}
 use Rattle.table_text.specs.Reading.{◌>>=◌, table_line, table_lines, table_at}
 use Rattle.table_text.specs.Reading as TableReading
-use Rattle.setup_text.specs.declared.fault.SetupKind.{SetupKind}
 use Rattle.setup_text.specs.declared.fault.SetupKind.TheVariants.{NoEnd}
-use Rattle.setup_text.specs.Grammars.{kind_of}
 use Rattle.setup_text.specs.Reading.{Fault, on_line, as_setup_kind, as_setup_fault}
 
 -- entering cells keeps the name

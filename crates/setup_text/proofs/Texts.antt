@@ -1,16 +1,15 @@
 -- The lines of a whole text.
-use Rattle.std.proofs.Common.{◌≡◌, ℕ, ◌+◌, ◌<◌, ◌≤◌, ◌^◌, Bool, true, false, cond, leb, List, [], ◌∷◌, ◌++◌, map, length, Option, Some, None, Result, Ok, Err, refl, sym, ap, subst, ◌∙◌, append_assoc, arith}
+use Rattle.std.proofs.Common.{◌≡◌, ℕ, ◌+◌, ◌<◌, ◌≤◌, ◌^◌, Bool, true, false, cond, leb, List, [], ◌∷◌, ◌++◌, map, length, Option, Some, None, Ok, Err, refl, sym, ap, subst, ◌∙◌, append_assoc, arith}
 use Rattle.std.specs.Prelude.{decimal}
 use Rattle.std.specs.List.{AllByRecursion}
-use Rattle.std.proofs.lemmas.Bool.{leb-true, le-leb, eqb-true, eqb-false}
+use Rattle.std.proofs.lemmas.Bool.{leb-true, le-leb}
 use Rattle.fb_text.specs.declared.fault.TextKind.{TextKind}
 use Rattle.fb_text.specs.Number.{number_of}
 use Rattle.fb_text.specs.Lines.{words, contents}
-use Rattle.fb_text.specs.Places.{Words, Item, word, line_end, text_end, items, line_items, lines_items, lines_places}
+use Rattle.fb_text.specs.Places.{Words, Item, text_end, items, line_items, lines_items, lines_places}
 use Rattle.fb_text.specs.Unread.{Line, with_line, numbered, number_within}
 use Rattle.fb_text.proofs.LineItems.{items_line, cut_line}
-use Rattle.fb_text.proofs.Decimal.{number_again, number_is}
-use Rattle.table_text.specs.Reading.{◌>>=◌}
+use Rattle.fb_text.proofs.Decimal.{number_again}
 
 -- ---- items
 

@@ -1,9 +1,8 @@
 -- A setup that is written is spelled by what is written.
-use Rattle.std.proofs.Common.{◌≡◌, ℕ, ◌+◌, ◌*◌, ◌<◌, ◌^◌, List, [], ◌∷◌, ◌++◌, length, map, refl, sym, ap, subst, ◌∙◌, arith}
-use Rattle.std.specs.List.{AllByRecursion}
+use Rattle.std.proofs.Common.{◌≡◌, ℕ, ◌*◌, ◌<◌, ◌^◌, List, [], ◌++◌, map, refl, sym, ap, subst, ◌∙◌, arith}
 use Rattle.std.proofs.lemmas.List.{append-nil}
-use Rattle.fb_text.specs.Lines.{lines, words, contents}
-use Rattle.fb_text.specs.Unread.{Line, unread, numbered}
+use Rattle.fb_text.specs.Lines.{lines}
+use Rattle.fb_text.specs.Unread.{unread, numbered}
 use Rattle.fb_text.specs.Places.{Words, items, lines_items, lines_places, text_places}
 use Rattle.fb_text.proofs.Spaced.{lines_again}
 use Rattle.class_relation.specs.Tables.{Table}

@@ -1,7 +1,7 @@
 -- What it means that a text is read right.
 use Rattle.std.specs.Prelude.{◌≡◌, ℕ, ◌≤◌, List, Result, Ok, Err}
 use Rattle.std.specs.List.{AllByRecursion}
-use Rattle.fb_text.specs.Places.{Place, items, text_places, Grammar, FirstFault}
+use Rattle.fb_text.specs.Places.{items, text_places, Grammar, FirstFault}
 use Rattle.class_relation.specs.Tables.{Table}
 use Rattle.table_check.specs.Setup.{Setup}
 use Rattle.setup_text.specs.declared.fault.SetupKind.{SetupKind}

@@ -205,7 +205,7 @@ pub data Mode : Type 0 where
 abbrev pub word_line : Setup → Words → Result Mode SetupKind
 word_line setup ws =
     if is_empty setup.tables then
-      (if is_empty setup.boards then (value_line (length setup.memory) ws >>= λ a. Ok (body (with_word setup a.0 a.1))) else Err UnknownWord)
+    (if is_empty setup.boards then (value_line (length setup.memory) ws >>= λ a. Ok (body (with_word setup a.0 a.1))) else Err UnknownWord)
     else Err UnknownWord
 
 -- A name that no table has.

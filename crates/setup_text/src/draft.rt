@@ -7,11 +7,11 @@ ghost use Rattle.table_check.specs.Setup.{BoardFits, access_count};
 ghost use Rattle.setup_text.specs.Drafts.{empty_setup, with_word, with_table, with_board, with_access, access_added, named, found_name, IsDraft};
 ghost use Rattle.setup_text.specs.Reading.{has_number};
 
-use setup::Setup;
 use crate::tables::Tables;
 use bus_signals::Access;
 use class_relation::Table;
 use no_memory::NoMemory;
+use setup::Setup;
 use std::alloc::Global;
 use std::marker::Model;
 use table_check::BoardSpec;
@@ -146,6 +146,11 @@ impl Draft {
         requires { 1 ≤ length self.boards }
         ensures { result ≡ self }
     {
-        Setup::of(self.memory, self.tables.into_vec(), self.boards, self.scripts)
+        Setup::of(
+            self.memory,
+            self.tables.into_vec(),
+            self.boards,
+            self.scripts,
+        )
     }
 }

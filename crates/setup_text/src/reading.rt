@@ -16,12 +16,12 @@ ghost use Rattle.setup_text.specs.Writing.{written_setup, IsWholeSetup, lines_be
 use crate::board_line::board;
 use crate::draft::Draft;
 use crate::fault::{LimitOf, SetupFault, SetupKind};
-use setup::Setup;
 use crate::table_lines::table;
 use crate::words::{access, bad, limit, line_end, memory_lines, this_word, value_line};
 use bus_signals::LocalEvent;
 use class_words::{is, local_event_of};
 use fb_text::Scan;
+use setup::Setup;
 use std::alloc::Global;
 
 /// A `word` line, behind its first word.
@@ -93,12 +93,7 @@ fn end_line(scan: &mut Scan, draft: &Draft) -> Result<(), SetupFault>
 
 /// One line or one table, behind its first word, which is not `end`.
 #[tactic(auto, unfolding(crate::specs::Reading::body_line))]
-fn part(
-    alloc: Global,
-    scan: &mut Scan,
-    draft: &mut Draft,
-    word: &[u8],
-) -> Result<(), SetupFault>
+fn part(alloc: Global, scan: &mut Scan, draft: &mut Draft, word: &[u8]) -> Result<(), SetupFault>
     requires { bytes_eq word.now (codes "end") ≡ false }
     ensures exact { GoesOn lines_at (λ _. Mode.body draft.new) result scan.new (then_lines lines_at scan.old (body_line draft.old (word.now ∷ scan.old.words))) }
     ensures shorter { OnOk result (length scan.new.lines ≤ length scan.old.lines) }

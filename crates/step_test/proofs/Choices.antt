@@ -1,6 +1,6 @@
 -- Facts that can be tested.
-use Rattle.std.proofs.Common.{◌≡◌, ℕ, ◌⊎◌, inl, inr, Bool, true, false, refl}
-use Rattle.std.specs.Prelude.{IsTrue, IsFalse, IsSome, Option, Some, None}
+use Rattle.std.proofs.Common.{◌⊎◌, inl, inr, Bool, true, false, refl}
+use Rattle.std.specs.Prelude.{IsTrue, IsFalse}
 
 -- A fact holds, or it does not.
 abbrev pub Known : Type 0 → Type 0

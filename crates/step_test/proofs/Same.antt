@@ -1,16 +1,13 @@
 -- Whether two values are the same can be tested.
-use Rattle.std.proofs.Common.{◌≡◌, ℕ, ◌⊎◌, inl, inr, Bool, true, false, eqb, List, [], ◌∷◌, Option, Some, None, refl, sym, ap, ◌∙◌, eq-eqb}
-use Rattle.std.specs.Prelude.{IsTrue, ◌==◌}
+use Rattle.std.proofs.Common.{◌≡◌, ℕ, inl, inr, Bool, true, false, List, [], ◌∷◌, Option, Some, None, refl, ap, eq-eqb}
+use Rattle.std.specs.Prelude.{◌==◌}
 use Rattle.std.proofs.lemmas.Bool.Decides.{Decides-eqb}
-use Rattle.std.specs.Bool.{beq}
 use Rattle.bus_signals.specs.declared.Access.{Access}
 use Rattle.bus_signals.specs.declared.Access.TheVariants as access
 use Rattle.bus_signals.specs.declared.BusEvent.{BusEvent}
 use Rattle.bus_signals.specs.Signals.{same_event, event_number}
 use Rattle.moesi_state.specs.declared.State.{State}
-use Rattle.moesi_state.specs.declared.Outcome.{Outcome}
 use Rattle.moesi_state.specs.States.{same_state, state_number}
-use Rattle.moesi_state.specs.Outcomes.{same_outcome}
 use Rattle.class_relation.proofs.Spelling.{same_state-eq, same_event-eq}
 use Rattle.journal.specs.declared.event.Done.{Done}
 use Rattle.journal.specs.declared.event.Source.{Source}

@@ -1,6 +1,6 @@
 -- Whether an event may happen can be tested.
-use Rattle.std.proofs.Common.{◌≡◌, ℕ, ◌⊎◌, inl, inr, Bool, true, false, List, [], ◌∷◌, Option, Some, None, refl, sym, ap, ◌∙◌, subst}
-use Rattle.std.specs.Prelude.{IsTrue, IsFalse, IsSome}
+use Rattle.std.proofs.Common.{◌≡◌, ℕ, inl, inr, List, [], ◌∷◌, Option, Some, None, refl, ap, subst}
+use Rattle.std.specs.Prelude.{IsSome}
 use Rattle.bus_signals.specs.declared.Access.{Access}
 use Rattle.bus_signals.specs.declared.BusEvent.{BusEvent}
 use Rattle.bus_signals.specs.declared.BusEvent.TheVariants.{Flu}
@@ -13,14 +13,14 @@ use Rattle.moesi_state.specs.Outcomes.{is_invalid}
 use Rattle.class_relation.specs.Actions.{has_local, has_answer, silently}
 use Rattle.class_relation.specs.Tables.{answers_of}
 use Rattle.bus_model.specs.Setup.{Setup, number_of, table_of}
-use Rattle.bus_model.specs.Events.{Event, Local, Drop, Raise, Grant, Connect, DataPhase, Done, Transaction, Carried, Answer}
+use Rattle.bus_model.specs.Events.{Local, Drop, Raise, Grant, Connect, DataPhase, Done, Transaction, Carried, Answer}
 use Rattle.bus_model.specs.Configuration.{Row, Configuration, Phase, Idle, Granted, Connected, state_at, words_at, present_access, is_raised, is_granted, is_connected, is_held}
 use Rattle.bus_model.specs.Board.{access_line, cell_of, needs_bus, wants_row, is_full, victim, is_clean}
 use Rattle.settling.specs.Settling.{highest, settled_lines, settled_rounds}
 use Rattle.bus_model.specs.Arbitration.{competing_numbers}
 use Rattle.bus_model.specs.Connecting.{other_holders, AnswersFit}
 use Rattle.bus_model.specs.Carrying.{source_of, takers_of, states_of, source_words, reply_of, done_of}
-use Rattle.bus_model.specs.Steps.{is_quiet, CanLocal, CanDrop, CanRaise, CanGrant, ForAccess, ForVictim, Purpose, CanConnect, CanData, Can}
+use Rattle.bus_model.specs.Steps.{is_quiet, CanLocal, CanDrop, CanRaise, CanGrant, ForAccess, ForVictim, CanConnect, CanData}
 use Rattle.step_test.specs.Decided.{EventsAreDecided}
 use Rattle.step_test.proofs.Choices.{Known, known_as, known_both, known_either, known_if, known_true, known_false}
 use Rattle.step_test.proofs.Same.{same_number, states_same, bus_events_same, same_option, same_list, same_pair, same_access, same_done, same_source, same_takers}

@@ -1,14 +1,14 @@
 -- A text that is read piece by piece leaves its reader where the whole text does.
-use Rattle.std.proofs.Common.{◌≡◌, ℕ, ◌<◌, ◌+◌, Bool, true, false, List, [], ◌∷◌, ◌++◌, Option, Some, None, length, leb, refl, sym, ap, ◌∙◌, arith}
+use Rattle.std.proofs.Common.{◌≡◌, ℕ, ◌<◌, ◌+◌, Bool, true, false, List, [], ◌∷◌, ◌++◌, Option, Some, None, length, refl, ap, ◌∙◌}
 use Rattle.std.specs.Prelude.{nat_le, if◌then◌else◌}
 use Rattle.std.specs.List.{AllByRecursion}
 use Rattle.std.proofs.lemmas.Bool.{leb-false}
 use Rattle.journal.specs.declared.event.Event.{Event}
 use Rattle.trace_lines.specs.declared.fault.ReplayFault.TheVariants.{Spelling}
-use Rattle.trace_lines.specs.Lines.{Line, lines_of, is_end_word, event_in, closed_line, last_line}
+use Rattle.trace_lines.specs.Lines.{Line, lines_of, is_end_word, event_in}
 use Rattle.trace_lines.specs.Reader.{LacksFeed}
 use Rattle.trace_lines.specs.Replaying.{Place, reading, ended, refused, by_step, by_event, at_open, at_closed, follow, fed, left_by, longest}
-use Rattle.trace_lines.proofs.Cutting.{IsLine, are_lines, prefixed, joined, lines_joined, lines_prefixed, lines_closed, lines_open}
+use Rattle.trace_lines.proofs.Cutting.{IsLine, are_lines, joined, lines_joined, lines_prefixed}
 use Rattle.trace_lines.proofs.Long.{long_front}
 
 -- What follows a closed line is read from behind it.

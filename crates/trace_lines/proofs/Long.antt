@@ -1,5 +1,5 @@
 -- Lines that are too long to be one of a trace.
-use Rattle.std.proofs.Common.{◌≡◌, ℕ, ◌<◌, ◌+◌, Bool, true, false, List, [], ◌∷◌, ◌++◌, Option, Some, None, length, leb, refl, sym, ap, ◌∙◌, arith, length-append}
+use Rattle.std.proofs.Common.{◌≡◌, ℕ, ◌<◌, ◌+◌, Bool, true, false, List, [], ◌∷◌, ◌++◌, Option, Some, None, length, refl, sym, ap, ◌∙◌, arith, length-append}
 use Rattle.std.specs.Prelude.{codes, nat_le, if◌then◌else◌}
 use Rattle.std.proofs.lemmas.Bool.{leb-true, leb-false}
 use Rattle.journal.specs.declared.event.Event.{Event}
@@ -7,10 +7,10 @@ use Rattle.trace_text.specs.Reading.{pieces, event_at}
 use Rattle.trace_text.proofs.Binds.{is_word}
 use Rattle.trace_text.proofs.Lines.{line_is}
 use Rattle.trace_text.proofs.Lengths.{line_length}
-use Rattle.trace_text.specs.Spelling.{text_of_event, line_of_event}
+use Rattle.trace_text.specs.Spelling.{text_of_event}
 use Rattle.trace_lines.specs.declared.fault.ReplayFault.TheVariants.{Spelling}
 use Rattle.trace_lines.specs.declared.reader.Found.TheVariants as found
-use Rattle.trace_lines.specs.Lines.{Line, last_line, is_end_word, event_in}
+use Rattle.trace_lines.specs.Lines.{Line, is_end_word, event_in}
 use Rattle.trace_lines.specs.Reader.{found_in}
 use Rattle.trace_lines.specs.Replaying.{Place, reading, refused, at_open, at_closed, follow, longest}
 use Rattle.trace_lines.proofs.Cutting.{prefixed}

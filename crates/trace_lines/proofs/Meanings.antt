@@ -1,5 +1,5 @@
 -- What is read is what a line means.
-use Rattle.std.proofs.Common.{◌≡◌, ◌≢◌, ℕ, Bool, true, false, List, Option, Some, None, refl, sym, ap, ◌∙◌}
+use Rattle.std.proofs.Common.{◌≡◌, ◌≢◌, ℕ, false, List, Option, Some, None, refl}
 use Rattle.journal.specs.declared.event.Event.{Event}
 use Rattle.trace_text.specs.Reading.{pieces, event_at}
 use Rattle.trace_text.specs.Ranges.{InRange}

@@ -1,14 +1,14 @@
 -- The lines of a run that was printed are read again.
 use Rattle.std.proofs.Common.{◌≡◌, ℕ, Bool, true, false, List, [], ◌∷◌, ◌++◌, Option, Some, None, refl, sym, ap, ◌∙◌, subst, append_assoc}
-use Rattle.std.specs.Prelude.{codes, if◌then◌else◌}
-use Rattle.std.specs.List.{flat_map, AllByRecursion}
+use Rattle.std.specs.Prelude.{codes}
+use Rattle.std.specs.List.{flat_map}
 use Rattle.journal.specs.declared.event.Event.{Event}
 use Rattle.trace_text.specs.Ranges.{InRange}
 use Rattle.trace_text.specs.Reading.{event_at}
 use Rattle.trace_text.specs.Spelling.{text_of_event, line_of_event}
 use Rattle.trace_text.proofs.Binds.{is_word}
 use Rattle.trace_text.proofs.Lines.{first_is}
-use Rattle.trace_lines.specs.Lines.{Line, closed_line, lines_of, before_end, trace_of, is_end_word, event_in, event_lines}
+use Rattle.trace_lines.specs.Lines.{Line, closed_line, lines_of, before_end, trace_of, is_end_word, event_in}
 use Rattle.trace_lines.specs.Printed.{PrintedEventsAreTraces}
 use Rattle.trace_lines.specs.Reader.{LacksFeed}
 use Rattle.trace_lines.proofs.Cutting.{lines_closed}

@@ -1,8 +1,8 @@
 -- What a trace comes to on something that takes events: of each event, `step` says what it leads to, where it is a step.
-use Rattle.std.specs.Prelude.{ℕ, ◌+◌, nat_le, Bool, List, [], ◌∷◌, ◌++◌, length, Option, Some, None, Result, Ok, Err, if◌then◌else◌}
+use Rattle.std.specs.Prelude.{ℕ, ◌+◌, nat_le, List, [], ◌∷◌, ◌++◌, length, Option, Some, None, Result, Err, if◌then◌else◌}
 use Rattle.journal.specs.declared.event.Event.{Event}
 use Rattle.trace_lines.specs.declared.fault.ReplayFault.{ReplayFault}
-use Rattle.trace_lines.specs.declared.fault.ReplayFault.TheVariants.{Spelling, NotARun, Unfinished}
+use Rattle.trace_lines.specs.declared.fault.ReplayFault.TheVariants.{Spelling, NotARun}
 use Rattle.trace_lines.specs.Lines.{Line, lines_of, trace_of, is_end_word, event_in, event_of}
 
 -- A step leads on. Any other event is a fault of its line.

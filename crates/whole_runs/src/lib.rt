@@ -10,5 +10,3 @@ mod tables;
 mod tests;
 #[cfg(test)]
 mod traces;
-#[cfg(test)]
-mod turns;

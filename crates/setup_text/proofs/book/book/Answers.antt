@@ -1,6 +1,6 @@
-use Rattle.std.proofs.Common.{◌≡◌, sym, ◌∙◌, ap, subst, Ok}
+use Rattle.std.proofs.Common.{sym, ◌∙◌}
 use Rattle.std.proofs.lemmas.Result.{err_from_is_err_and}
-use Rattle.setup_text.specs.Reading.{BookMode, book_lines}
+use Rattle.setup_text.specs.Reading.{BookMode}
 use Rattle.setup_text.proofs.LineSteps.{book_step, book_none, fails_to, no_tables, some_tables}
 use Rattle.setup_text.proofs.book.book.Goals as goal
 

@@ -1,8 +1,6 @@
-use Rattle.std.proofs.Common.{◌≡◌, ℕ, List, [], ◌∷◌, ◌++◌, sym, ◌∙◌, ap, subst}
+use Rattle.std.proofs.Common.{[], ◌∷◌, ◌++◌, ◌∙◌}
 use Rattle.std.proofs.lemmas.Result.{err_from_is_err_and}
-use Rattle.class_relation.specs.Tables.{Table}
-use Rattle.fb_text.specs.Unread.{Unread}
-use Rattle.setup_text.specs.Reading.{BookMode, book_lines, whole_table, FailsAs}
+use Rattle.setup_text.specs.Reading.{BookMode, book_lines, whole_table}
 use Rattle.setup_text.proofs.LineSteps.{book_begun, book_table, table_read, table_failed}
 use Rattle.setup_text.proofs.book.table_lines.Goals as goal
 

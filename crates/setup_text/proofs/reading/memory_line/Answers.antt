@@ -1,6 +1,5 @@
-use Rattle.std.proofs.Common.{◌≡◌, sym, ◌∙◌, ap, subst}
-use Rattle.fb_text.specs.Unread.{Unread}
-use Rattle.setup_text.specs.Reading.{start, body, lines_at, first_line, FailsAs, GoesOn, then_lines}
+use Rattle.std.proofs.Common.{sym, ◌∙◌}
+use Rattle.setup_text.specs.Reading.{start, body, lines_at, first_line}
 use Rattle.setup_text.proofs.LineSteps.{setup_begins, setup_none, line_goes, goes_on_to}
 use Rattle.setup_text.proofs.reading.memory_line.Goals as goal
 

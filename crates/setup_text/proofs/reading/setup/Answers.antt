@@ -1,6 +1,6 @@
-use Rattle.std.proofs.Common.{◌≡◌, true, sym, ◌∙◌, ap, subst, Ok}
+use Rattle.std.proofs.Common.{sym, ◌∙◌}
 use Rattle.std.proofs.lemmas.Result.{err_from_is_err_and}
-use Rattle.setup_text.specs.Reading.{body, ended, lines_at, body_line, then_lines, FailsAs, Answers, mode_after}
+use Rattle.setup_text.specs.Reading.{body}
 use Rattle.setup_text.proofs.LineSteps.{setup_step, setup_none, fails_to, answers_to, ends_by, goes_by}
 use Rattle.setup_text.proofs.reading.setup.Goals as goal
 

@@ -1,6 +1,5 @@
-use Rattle.std.proofs.Common.{◌≡◌, ◌<◌, ℕ, List, length, [], ◌∷◌, ◌++◌, sym, ◌∙◌, ap, subst}
+use Rattle.std.proofs.Common.{◌∙◌}
 use Rattle.std.proofs.lemmas.Result.{err_from_is_err_and}
-use Rattle.class_relation.specs.Tables.{Table}
 use Rattle.setup_text.specs.Reading.{body, lines_at, whole_table}
 use Rattle.setup_text.specs.Drafts.{with_table}
 use Rattle.setup_text.proofs.LineSteps.{head_begun, no_boards, setup_table, table_read, table_failed}

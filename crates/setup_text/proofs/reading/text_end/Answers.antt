@@ -1,5 +1,5 @@
-use Rattle.std.proofs.Common.{◌≡◌, sym, ◌∙◌, ap}
-use Rattle.setup_text.specs.Reading.{ended, lines_at}
+use Rattle.std.proofs.Common.{sym, ◌∙◌}
+use Rattle.setup_text.specs.Reading.{ended}
 use Rattle.setup_text.proofs.LineSteps.{ended_more, setup_none}
 use Rattle.setup_text.proofs.reading.text_end.Goals as goal
 

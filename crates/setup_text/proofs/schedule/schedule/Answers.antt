@@ -1,8 +1,8 @@
-use Rattle.std.proofs.Common.{◌≡◌, ℕ, List, Result, Ok, sym, ◌∙◌, ap, subst}
+use Rattle.std.proofs.Common.{ℕ, List, Result, sym, ◌∙◌}
 use Rattle.std.proofs.lemmas.Result.{err_from_is_err_and}
-use Rattle.fb_text.specs.Unread.{Unread, Line}
-use Rattle.setup_text.specs.Reading.{Fault, FailsAs, GoesOn, schedule_lines, places_on, then_lines}
-use Rattle.setup_text.proofs.LineSteps.{schedule_step, schedule_none, line_goes, line_fails, line_leads}
+use Rattle.fb_text.specs.Unread.{Line}
+use Rattle.setup_text.specs.Reading.{Fault, schedule_lines}
+use Rattle.setup_text.proofs.LineSteps.{schedule_step, schedule_none, line_fails, line_leads}
 use Rattle.setup_text.proofs.schedule.schedule.Goals as goal
 
 abbrev lines : ℕ → List ℕ → List Line → ℕ → Result (List ℕ) Fault

@@ -1,14 +1,12 @@
 use Rattle.std.proofs.Common.{sym, ap, ◌∙◌, subst}
-use Rattle.std.specs.Prelude.{List, ℕ, Result, ◌≡◌}
 use Rattle.backplane.specs.Machine.{Machine, opened}
-use Rattle.trace_lines.specs.declared.fault.ReplayFault.{ReplayFault}
 use Rattle.trace_lines.specs.Lines.{trace_of}
-use Rattle.trace_lines.specs.Replaying.{Place, ending, outcome}
+use Rattle.trace_lines.specs.Replaying.{Place, ending}
 use Rattle.trace_lines.proofs.Ended.{replayed_left}
 use Rattle.replayer.specs.Replaying.{step, close}
-use Rattle.replayer.specs.Runs.{Accepts}
-use Rattle.replayer.specs.Standing.{StandsFor}
+use Rattle.replayer.specs.Runs.{Accepts, IsOnlyAnswer}
 use Rattle.replayer.proofs.Saying.{says_of, accepts}
+use Rattle.replayer.proofs.Only.{only}
 use Rattle.replayer.proofs.pieces.Replay.finish.Goals as goal
 
 pub returns-clause-replayed : goal.returns-clause-replayed
@@ -21,3 +19,8 @@ pub returns-clause-accepts : goal.returns-clause-accepts
 returns-clause-accepts c = λ text stands.
     let is = returns-clause-replayed c text stands in
     subst (Accepts c.args.self.setup (trace_of text)) (sym is) (accepts c.args.self.setup (trace_of text) 1)
+
+pub returns-clause-only : goal.returns-clause-only
+returns-clause-only c = λ text stands.
+    let is = returns-clause-replayed c text stands in
+    subst (IsOnlyAnswer c.args.self.setup (trace_of text)) (sym is) (only c.args.self.setup (trace_of text))

@@ -1,4 +1,4 @@
-use Rattle.std.proofs.Common.{◌≡◌, sym, ◌∙◌}
+use Rattle.std.proofs.Common.{sym, ◌∙◌}
 use Rattle.setup_text.proofs.Naming.{found_none, found_some}
 use Rattle.setup_text.proofs.names.Names.find.Goals as goal
 

@@ -1,4 +1,4 @@
-use Rattle.std.proofs.Common.{◌≡◌, ℕ, List, [], ◌∷◌, ◌++◌, ap, ◌∙◌}
+use Rattle.std.proofs.Common.{ℕ, List, [], ◌∷◌, ◌++◌, ap, ◌∙◌}
 use Rattle.setup_text.specs.Drafts.{Named, found_name}
 use Rattle.setup_text.proofs.Naming.{pushed}
 use Rattle.setup_text.proofs.names.Names.push.Goals as goal

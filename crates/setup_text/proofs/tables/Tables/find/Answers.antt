@@ -1,4 +1,4 @@
-use Rattle.std.proofs.Common.{◌≡◌, ◌<◌, List, length, sym, ◌∙◌, ap, subst, arith}
+use Rattle.std.proofs.Common.{◌<◌, List, length, sym, ◌∙◌, ap, subst, arith}
 use Rattle.class_relation.specs.Tables.{Table}
 use Rattle.setup_text.specs.Drafts.{Named, found_name, IsKnown}
 use Rattle.setup_text.proofs.Naming.{found_known}

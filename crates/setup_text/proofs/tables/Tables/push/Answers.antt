@@ -1,4 +1,4 @@
-use Rattle.std.proofs.Common.{◌≡◌, List, ◌∷◌, [], ◌++◌, ap, ◌∙◌}
+use Rattle.std.proofs.Common.{List, ◌∷◌, [], ◌++◌, ap, ◌∙◌}
 use Rattle.class_relation.specs.Tables.{Table}
 use Rattle.setup_text.proofs.Drafts.{tables_pushed}
 use Rattle.setup_text.proofs.tables.Tables.push.Goals as goal
