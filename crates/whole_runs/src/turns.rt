@@ -56,14 +56,14 @@ fn turns(machine: &mut Machine, places: &[u8]) -> Result<usize, Fail> {
     Ok(events)
 }
 
-/// The state of a board's copy of a line, with the first word.
-fn copy(machine: &Machine, place: u8, line: u32) -> Result<Option<(State, u32)>, Fail> {
+/// The state of a board's copy of a line.
+fn state(machine: &Machine, place: u8, line: u32) -> Result<State, Fail> {
     if !has_board(machine, place) {
         return Err(Fail::from("no such board"));
     }
     match machine.copy(BoardNo(place), LineNo(line)) {
-        Some((state, words)) => Ok(Some((state, words[0]))),
-        None => Ok(None),
+        Some(copy) => Ok(copy.0),
+        None => Ok(State::I),
     }
 }
 
@@ -83,7 +83,8 @@ fn memory(machine: &Machine, line: u32) -> Result<u32, Fail> {
     if line >= machine.lines() {
         return Err(Fail::from("no such line"));
     }
-    Ok(machine.memory_line(LineNo(line))[0])
+    let words = machine.memory_line(LineNo(line));
+    Ok(words[0])
 }
 
 #[test]
@@ -105,8 +106,8 @@ fn a_write_waits_while_its_line_is_held(rt: HostRuntime) -> Result<(), Fail> {
     assert_eq!(rt; turns(&mut machine, &[2, 1, 1, 1, 1])?, 5);
     assert!(rt; machine.finished());
     assert_eq!(rt; turn(&mut machine, 1)?, Moved::Finished);
-    assert_eq!(rt; copy(&machine, 1, 0)?, Some((State::M, 9)));
-    assert_eq!(rt; copy(&machine, 2, 0)?, None);
+    assert_eq!(rt; state(&machine, 1, 0)?, State::M);
+    assert_eq!(rt; state(&machine, 2, 0)?, State::I);
     assert_eq!(rt; memory(&machine, 0)?, 0);
     assert_eq!(rt; first_reply(&machine, 2)?, Some(0));
     Ok(())
@@ -145,8 +146,8 @@ fn an_owned_victim_is_flushed_first(rt: HostRuntime) -> Result<(), Fail> {
     assert!(rt; machine.finished());
     assert_eq!(rt; memory(&machine, 0)?, 1);
     assert_eq!(rt; memory(&machine, 1)?, 0);
-    assert_eq!(rt; copy(&machine, 1, 1)?, Some((State::M, 2)));
-    assert_eq!(rt; copy(&machine, 1, 0)?, None);
+    assert_eq!(rt; state(&machine, 1, 1)?, State::M);
+    assert_eq!(rt; state(&machine, 1, 0)?, State::I);
     Ok(())
 }
 
