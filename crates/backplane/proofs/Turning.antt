@@ -85,7 +85,7 @@ next_count m xs board =
     go Finished = refl
 
 -- Where every board has done all its accesses the run is complete.
-complete_then : (setup : Setup) (events : List Event) (c : Configuration) → Sound setup events c → AllDone setup c → Complete setup c
+pub complete_then : (setup : Setup) (events : List Event) (c : Configuration) → Sound setup events c → AllDone setup c → Complete setup c
 complete_then setup events c sound done = record { scripts = done; idle = go c.phase refl }
   where
     none : (board : ℕ) → IsSome (present_access setup c.boards board) → ⊥

@@ -16,6 +16,7 @@ use Rattle.fb_cli.specs.declared.answers.Reply.{Reply}
 use Rattle.fb_cli.specs.declared.answers.Reply.TheVariants.{Answered, Refused}
 use Rattle.fb_cli.specs.Output.{Command, check, show, run, run_seeded, replay, make, tally}
 use Rattle.fb_cli.specs.Answers.{WrittenAs, reply_output}
+use Rattle.fb_cli.proofs.Alike.{replayed_alike}
 use Rattle.fb_cli.specs.Headline.{RunHolds, RunsFile, RepliesRun, RunWrote, PrintsRun, CommandWrote}
 
 -- The first events of a run are a run.
@@ -31,6 +32,7 @@ step_at setup c (first ∷ before) rest event last leads = step_at setup (after 
 pub holds : (setup : Setup) (events : List Event) → WellFormed setup → AllInClass setup → Run setup events (after_all (opening setup) events) → Complete setup (after_all (opening setup) events)
     → AllByRecursion InRange events → Legal setup.memory (entries events) → RunHolds setup events
 holds setup events well accepted runs complete spelled legal = record {
+  accepted = accepted;
   run = runs;
   complete = complete;
   spelled = spelled;
@@ -51,7 +53,8 @@ run_wrote : (name : List ℕ) (bytes_of : List ℕ → List ℕ) (B : Type 0) (b
 run_wrote name bytes_of B before after (Answered (Said status text)) answer some (inl (is, taken)) prints = λ zero. absurd (omega (arith, some, is, zero))
 run_wrote name bytes_of B before after (Answered (Said status text)) answer some (inr (is, rose, front)) prints = λ zero. absurd (omega (arith, is, zero))
 run_wrote name bytes_of B before after (Answered (Ran machine line)) answer setup (inl (is, taken)) prints = λ zero.
-    (machine.setup, setup.1, (_, taken, record { events = machine.journal; holds = prints zero; text = refl }))
+    let holds = prints zero in
+    (machine.setup, setup.1, (_, taken, record { events = machine.journal; holds = holds; text = refl }, replayed_alike (bytes_of name) machine.setup machine.journal setup holds))
 run_wrote name bytes_of B before after (Answered (Ran machine line)) answer setup (inr (is, rose, front)) prints = λ zero. absurd (omega (arith, is, zero))
 run_wrote name bytes_of B before after (Answered (Replayed machine line)) answer none written prints = absurd none
 run_wrote name bytes_of B before after (Refused NoRow) answer some (inl (is, taken)) prints = λ zero. absurd (omega (arith, is, zero))

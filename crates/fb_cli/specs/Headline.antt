@@ -5,23 +5,25 @@ use Rattle.std.specs.Io.KnownBytes.{Appends}
 use Rattle.fb_text.specs.Unread.{unread}
 use Rattle.trace_text.specs.Ranges.{InRange}
 use Rattle.setup_text.specs.Reading.{setup_at}
-use Rattle.bus_model.specs.Setup.{Setup, script_of}
+use Rattle.bus_model.specs.Setup.{Setup, AllInClass, script_of}
 use Rattle.bus_model.specs.Events.{Event, Grant}
 use Rattle.bus_model.specs.Configuration.{Configuration, opening}
 use Rattle.bus_model.specs.Steps.{CanGrant}
 use Rattle.bus_model.specs.Runs.{Run, Complete, after_all}
 use Rattle.bus_model.specs.Entries.{Entry, entries, entries_of, Legal}
 use Rattle.bus_model.specs.Soundness.{Sound}
-use Rattle.run_text.specs.RunText.{run_text}
+use Rattle.run_text.specs.RunText.{run_text, ending}
 use Rattle.fb_cli.specs.declared.answers.Answer.{Answer}
 use Rattle.fb_cli.specs.declared.answers.Answer.TheVariants.{Said, Ran, Replayed}
 use Rattle.fb_cli.specs.declared.answers.Reply.{Reply}
 use Rattle.fb_cli.specs.declared.answers.Reply.TheVariants.{Answered, Refused}
-use Rattle.fb_cli.specs.Output.{Command, check, show, run, run_seeded, replay, make, tally}
+use Rattle.fb_cli.specs.declared.role.Role.TheVariants as roles
+use Rattle.fb_cli.specs.Output.{Output, Command, check, show, run, run_seeded, replay, make, tally, replay_output, within}
 use Rattle.fb_cli.specs.Opening.{OfFile, AreSetup}
 
--- What holds of a complete run of a setup with these events: each is a step and has its line, each script is done whole, once and in order, each read gives the latest earlier write, after each event the configuration is sound, which includes that no line has two owners or a shared exclusive copy, and each grant is won by the highest number that competes.
+-- What holds of a complete run of a setup with these events: its tables are in the class, each event is a step and has its line, each script is done whole, once and in order, each read gives the latest earlier write, after each event the configuration is sound, which includes that no line has two owners or a shared exclusive copy, and each grant is won by the highest number that competes.
 pub record RunHolds (setup : Setup) (events : List Event) : Type 0 where
+  pub accepted : AllInClass setup
   pub run : Run setup events (after_all (opening setup) events)
   pub complete : Complete setup (after_all (opening setup) events)
   pub spelled : AllByRecursion InRange events
@@ -70,10 +72,15 @@ RepliesRun (Some (replay setup trace)) file reply = Unit {0}
 RepliesRun (Some (make seed)) file reply = Unit {0}
 RepliesRun (Some (tally seed)) file reply = Unit {0}
 
--- What was written by `run` with status 0 is the text of a run of the setup of its file.
+-- On the bytes of a setup, `replay` of this text gives status 0 and what a run with these events ends in, which stands behind the line `end` there. Only a text that is too long for a trace is refused.
+abbrev pub IsReplayedAlike : List ℕ → Setup → List ℕ → List Event → Type 0
+IsReplayedAlike bytes setup text events =
+    replay_output bytes text ≡ within roles.Trace text (record { status = 0; text = ending setup events (after_all (opening setup) events) })
+
+-- What was written by `run` with status 0 is the text of a run of the setup of its file, and is replayed alike.
 abbrev pub RunWrote : List ℕ → (List ℕ → List ℕ) → Option (List ℕ) → Option (List ℕ) → Type 0
 RunWrote name bytes_of before after =
-    (setup : Setup) × (setup_at (unread (bytes_of name)) ≡ Ok setup) × ((text : List ℕ) × Appends before after text × IsTextOfRun setup text)
+    (setup : Setup) × (setup_at (unread (bytes_of name)) ≡ Ok setup) × ((text : List ℕ) × Appends before after text × (run : IsTextOfRun setup text) × IsReplayedAlike (bytes_of name) setup text run.events)
 
 -- What a command wrote with status 0, where that is a run.
 abbrev pub CommandWrote : Option Command → (List ℕ → List ℕ) → Option (List ℕ) → Option (List ℕ) → ℕ → Type 0

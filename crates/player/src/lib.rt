@@ -36,7 +36,7 @@ fn take_seeded(machine: &mut Machine, mut turns: SeededTurns)
 }
 
 /// Boards have turns in order, until every script is at its end.
-fn finish(machine: &mut Machine)
+pub fn finish(machine: &mut Machine)
     ensures machine { (rounds : ℕ) → 8 * access_count machine.old.setup ≤ rounds → machine.new ≡ after_turns machine.old (repeated rounds (board_places machine.old.setup)) }
     ensures complete { Complete machine.new.setup (configuration machine.new) }
 {

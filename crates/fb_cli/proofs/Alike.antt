@@ -1,0 +1,58 @@
+-- What a run printed is replayed alike.
+use Rattle.std.proofs.Common.{◌≡◌, ℕ, ◌≤◌, ◌++◌, true, false, List, [], ◌∷◌, refl, ap, sym, ◌∙◌, arith, append_assoc, append-nil}
+use Rattle.std.proofs.lemmas.Bool.Decides.{nat_tests}
+use Rattle.std.specs.Prelude.{Ok, codes, length, nat_lt, if◌then◌else◌}
+use Rattle.std.specs.List.{AllByRecursion, list_all, flat_map}
+use Rattle.fb_text.specs.Unread.{unread}
+use Rattle.fb_text.specs.Written.{line_bytes}
+use Rattle.trace_text.specs.Ranges.{InRange}
+use Rattle.trace_text.specs.Spelling.{line_of_event}
+use Rattle.trace_lines.specs.Lines.{trace_of, event_lines}
+use Rattle.trace_lines.proofs.Printing.{printed}
+use Rattle.setup_text.specs.Reading.{setup_at}
+use Rattle.bus_model.specs.Setup.{Setup}
+use Rattle.bus_model.specs.Events.{Event}
+use Rattle.bus_model.specs.Configuration.{opening}
+use Rattle.bus_model.specs.Runs.{after_all}
+use Rattle.backplane.specs.Machine.{opened}
+use Rattle.replayer.specs.Replaying.{replayed}
+use Rattle.replayer.proofs.Saying.{accepts}
+use Rattle.run_text.specs.RunText.{run_text, ending}
+use Rattle.fb_cli.specs.declared.role.Role.{Role}
+use Rattle.fb_cli.specs.declared.role.Role.TheVariants as roles
+use Rattle.fb_cli.specs.Report.{is_accepted}
+use Rattle.fb_cli.specs.Output.{Output, limit_of, within, on_read, on_replayed, if_accepted, traced_output, replay_output, report_output}
+use Rattle.fb_cli.specs.Opening.{AreSetup}
+use Rattle.fb_cli.specs.Headline.{RunHolds, IsReplayedAlike}
+use Rattle.fb_cli.proofs.AcceptedTables.{all-accepted}
+
+-- The line `end` is its word and a line feed.
+end_line : (rest : List ℕ) → line_bytes (codes "end" ∷ []) ++ rest ≡ codes "end" ++ 10 ∷ rest
+end_line rest = append_assoc (codes "end") (10 ∷ []) rest
+
+-- The trace of the text of a run is the lines of its events.
+traced : (events : List Event) (rest : List ℕ) → AllByRecursion InRange events
+    → trace_of (flat_map line_of_event events ++ (line_bytes (codes "end" ∷ []) ++ rest)) ≡ event_lines events
+traced events rest spelled = ap (λ end. trace_of (flat_map line_of_event events ++ end)) (end_line rest) ∙ printed events rest spelled
+
+-- The text of a run is replayed, and gives the machine of the run.
+run_replayed : (setup : Setup) (events : List Event) → RunHolds setup events
+    → replayed (opened setup) (run_text setup events (after_all (opening setup) events)) ≡ Ok (record { setup = setup; journal = events })
+run_replayed setup events holds =
+    let rest = ending setup events (after_all (opening setup) events) in
+    let lines = traced events rest holds.spelled in
+    accepts setup (trace_of (run_text setup events (after_all (opening setup) events))) 1 events
+    (record { run = record { spelled = holds.spelled; are = lines ∙ sym (append-nil (event_lines events)); run = holds.run }; complete = holds.complete })
+
+-- A file that is not too long is not refused for its length.
+is_within : (role : Role) (bytes : List ℕ) (wanted : Output) → length bytes ≤ limit_of role → within role bytes wanted ≡ wanted
+is_within role bytes wanted short = let no : nat_lt (limit_of role) (length bytes) ≡ false = grind (arith, nat_tests) in rw no refl
+
+pub replayed_alike : (bytes : List ℕ) (setup : Setup) (events : List Event) → AreSetup setup bytes → RunHolds setup events
+    → IsReplayedAlike bytes setup (run_text setup events (after_all (opening setup) events)) events
+replayed_alike bytes setup events read holds =
+    let text = run_text setup events (after_all (opening setup) events) in
+    is_within roles.Setup bytes (on_read roles.Setup (traced_output text) (setup_at (unread bytes))) read.0
+    ∙ (ap (on_read roles.Setup (traced_output text)) read.1
+    ∙ (ap (λ b. if b then within roles.Trace text (on_replayed (replayed (opened setup) text)) else report_output setup.tables) (all-accepted setup.tables holds.accepted)
+    ∙ ap (λ came. within roles.Trace text (on_replayed came)) (run_replayed setup events holds)))
