@@ -4,9 +4,9 @@ ghost use Rattle.std.specs.Prelude.{◌≡◌, [], IfOk, IsTrue};
 ghost use Rattle.backplane.specs.Machine.{IsBoard};
 
 use backplane::{AssembleFault, Machine, assemble};
+use setup_text::{Setup, read_setup};
 use std::alloc::Global;
 use std::test::Fail;
-use setup_text::{Setup, read_setup};
 
 /// A cached board that takes other copies away before it writes, one that broadcasts what it writes, one that writes
 /// through, and one without a cache.

@@ -101,10 +101,7 @@ fn traces_of_a_run(rt: HostRuntime) -> Result<(), Fail> {
             Err(ReplayFault::Spelling { line: 8 }),
         ),
         ("data 2 urd", Err(ReplayFault::Spelling { line: 8 })),
-        (
-            "",
-            Err(ReplayFault::Unfinished { board: BoardNo(2) }),
-        ),
+        ("", Err(ReplayFault::Unfinished { board: BoardNo(2) })),
         (
             "end\nraise 2\n",
             Err(ReplayFault::Unfinished { board: BoardNo(2) }),
@@ -124,7 +121,10 @@ fn traces_of_no_run(rt: HostRuntime) -> Result<(), Fail> {
         ("end", Err(ReplayFault::Spelling { line: 1 })),
         ("\n", Err(ReplayFault::Spelling { line: 1 })),
         ("raise 01\n", Err(ReplayFault::Spelling { line: 1 })),
-        ("raise 3\nraise 1\nend\n", Err(ReplayFault::NotARun { line: 1 })),
+        (
+            "raise 3\nraise 1\nend\n",
+            Err(ReplayFault::NotARun { line: 1 }),
+        ),
         ("raise 1\nraise 1\n", Err(ReplayFault::NotARun { line: 2 })),
         (
             "raise 1\ngrant 1 to 1 lines 10 rounds 1\n",

@@ -106,7 +106,10 @@ fn an_owned_victim_is_flushed_first(rt: HostRuntime) -> Result<(), Fail> {
         "memory 2\n",
         "board 1 number 3 table cb cached 1 1 choose first\nwrite 0 1\nwrite 4 2\nend\n",
     )?;
-    assert_eq!(rt; turns(&mut machine, &[1, 1, 1, 1, 1, 1, 1, 1, 1, 1, 1, 1]), 12);
+    assert_eq!(rt;
+        turns(&mut machine, &[1, 1, 1, 1, 1, 1, 1, 1, 1, 1, 1, 1]),
+        12
+    );
     assert!(rt; machine.finished());
     assert_eq!(rt; memory(&machine, 0), Some(1));
     assert_eq!(rt; memory(&machine, 1), Some(0));
