@@ -6,7 +6,7 @@ use std::sync::atomic::{AtomicBool, AtomicU64, Ordering};
 use std::thread;
 
 /// A gate looks at most so often for a turn that it waits for.
-const MOST_LOOKS: u32 = 1_000_000_000;
+const MOST_LOOKS: u32 = 100_000_000;
 
 /// Looks until the mark is set. The answer is whether it was seen.
 fn is_seen(mark: &AtomicBool) -> bool {
