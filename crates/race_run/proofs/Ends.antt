@@ -21,7 +21,7 @@ use Rattle.backplane.proofs.Turning.{complete_then}
 use Rattle.ruled_turn.specs.Entries.{GoesOn}
 use Rattle.ruled_turn.specs.Seats.{number, seen, turns}
 use Rattle.race_run.specs.Histories.{made, events_of, IsAtEnd}
-use Rattle.race_run.specs.Workers.{Seat, AreLater}
+use Rattle.race_run.specs.Workers.{Seat, IsThrough, AreLater}
 use Rattle.race_run.specs.Races.{GoesOnFrom}
 use Rattle.race_run.proofs.Turning.{events-made, events-more}
 
@@ -115,7 +115,7 @@ pub record AllWorked (m : Machine) (dealt worked : List Seat) : Type 0 where
   pub same : length worked ≡ length dealt
   pub follows : AreLater dealt worked
   pub known : All (λ s. GoesOn (seen s) (made m.journal)) worked
-  pub ended : All (λ s. IsAtEnd m.setup (seen s) (number s) ⊎ (turns s ≡ 2 ^ 40)) worked
+  pub ended : All (λ s. IsThrough m.setup s ⊎ (turns s ≡ 2 ^ 40)) worked
   pub few : All (λ s. turns s < 2 ^ 40) worked
 
 module _ (m : Machine) (dealt worked : List Seat) (all : AllWorked m dealt worked) where
@@ -135,8 +135,8 @@ module _ (m : Machine) (dealt worked : List Seat) (all : AllWorked m dealt worke
           let is : number s ≡ suc k = (all.follows k d below).number ∙ all.numbered k (slice_index_or dealt k d) (there dealt k d below) ∙ one in
           go s is (all.ended k d within) (all.few k d within) (all.known k d within)
         where
-          go : (s : Seat) → number s ≡ suc k → (IsAtEnd m.setup (seen s) (number s) ⊎ (turns s ≡ 2 ^ 40)) → turns s < 2 ^ 40 → GoesOn (seen s) (made m.journal) → present_access m.setup (configuration m).boards (suc k) ≡ None
-          go s is (inl none) few on = subst (λ (n : ℕ). present_access m.setup (configuration m).boards n ≡ None) is (ends_later m.setup (seen s) m.journal (number s) on none)
+          go : (s : Seat) → number s ≡ suc k → (IsThrough m.setup s ⊎ (turns s ≡ 2 ^ 40)) → turns s < 2 ^ 40 → GoesOn (seen s) (made m.journal) → present_access m.setup (configuration m).boards (suc k) ≡ None
+          go s is (inl through) few on = subst (λ (n : ℕ). present_access m.setup (configuration m).boards n ≡ None) is (ends_later m.setup (seen s) m.journal (number s) on through.ended)
           go s is (inr spent) few on = absurd (omega (arith, spent, few))
 
   each_at_its_end : (board : ℕ) → present_access m.setup (configuration m).boards board ≡ None

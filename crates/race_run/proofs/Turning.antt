@@ -13,15 +13,16 @@ use Rattle.bus_model.specs.Configuration.{Configuration, Phase, Idle, Granted, C
 use Rattle.bus_model.specs.Board.{access_line, is_clean}
 use Rattle.bus_model.specs.Carrying.{reply_of}
 use Rattle.bus_model.specs.Steps.{Can, after, is_quiet}
-use Rattle.bus_model.specs.Runs.{after_all}
+use Rattle.bus_model.specs.Runs.{Leads, Run, after_all}
 use Rattle.bus_model.specs.Soundness.{Sound}
 use Rattle.bus_model.specs.Turns.{Turn, Did, Waits, Finished, LineHeld, turn, turn_for, access_turn, action_turn, transaction_turn, room_turn, bus_turn, request_turn, local_turn, victim_for, decide, own_transaction, bus_holder}
+use Rattle.coherence.proofs.Steps.{every_run_is_sound}
 use Rattle.coherence.proofs.Turns.{turns_are_steps}
 use Rattle.backplane.specs.declared.moved.Moved.{Moved}
 use Rattle.backplane.specs.Machine.{Machine, configuration, configuration_after}
 use Rattle.backplane.specs.Moves.{told, moved, turn_of}
 use Rattle.ruled_turn.specs.Entries.{Grows, Turns}
-use Rattle.race_run.specs.Histories.{maker, made, events_of, reached, history_after, IsTurn, IsAtEnd}
+use Rattle.race_run.specs.Histories.{maker, made, events_of, reached, AreSteps, IsHistory, history_after, IsTurn, IsAtEnd}
 
 -- ---- a turn is of its board
 
@@ -131,6 +132,37 @@ last_event : (c : Configuration) (events : List Event) (event : Event) → after
 last_event c [] event = refl
 last_event c (e ∷ events) event = last_event (after c e) events event
 
+-- ---- steps of a run
+
+-- The first events of a run are a run.
+front : (setup : Setup) (c : Configuration) (earlier later : List Event) (last : Configuration) → Leads setup c (earlier ++ later) last → Leads setup c earlier (after_all c earlier)
+front setup c [] later last run = refl
+front setup c (e ∷ earlier) later last run = (run.0, front setup (after c e) earlier later last run.1)
+
+-- An event of a run may happen after those before it.
+may_follow : (setup : Setup) (c : Configuration) (earlier later : List Event) (event : Event) (last : Configuration) → Leads setup c (earlier ++ event ∷ later) last → Can setup (after_all c earlier) event
+may_follow setup c [] later event last run = run.0
+may_follow setup c (e ∷ earlier) later event last run = may_follow setup (after c e) earlier later event last run.1
+
+-- Each event of a run is a step after those before it.
+pub are_steps : (setup : Setup) (events : List Event) → WellFormed setup → AllInClass setup → Run setup events (configuration_after setup events) → AreSteps setup events
+are_steps setup events well accepted run = record {
+  each = λ earlier later event is.
+      let last : Configuration = configuration_after setup events in
+      let whole : Leads setup (opening setup) (earlier ++ event ∷ later) last = subst (λ (es : List Event). Leads setup (opening setup) es last) is run in
+      record {
+        step = record { can = may_follow setup (opening setup) earlier later event last whole; moves = last_event (opening setup) earlier event };
+        sound = every_run_is_sound setup earlier (configuration_after setup earlier) well accepted (front setup (opening setup) earlier (event ∷ later) last whole);
+      };
+}
+
+-- The history of a run is one of the setup.
+is_history : (setup : Setup) (events : List Event) → WellFormed setup → AllInClass setup → Run setup events (configuration_after setup events) → IsHistory setup (made events)
+is_history setup events well accepted run = record {
+  boards = ap made (sym (events-made events));
+  steps = subst (AreSteps setup) (sym (events-made events)) (are_steps setup events well accepted run);
+}
+
 -- ---- a turn of the machine
 
 module _ (m : Machine) (who : ℕ) where
@@ -160,8 +192,8 @@ module _ (m : Machine) (who : ℕ) where
 
   -- A turn of the machine is a turn of its history.
   pub is_turn : (next : Machine) (answer : Moved) → WellFormed m.setup → AllInClass m.setup → Sound m.setup m.journal (configuration m)
-      → answer ≡ told (turn_of m who) → next ≡ moved m (turn_of m who) → IsTurn m.setup (made m.journal) who answer (made next.journal)
-  is_turn next answer well accepted sound answer_is next_is =
+      → Run next.setup next.journal (configuration next) → answer ≡ told (turn_of m who) → next ≡ moved m (turn_of m who) → IsTurn m.setup (made m.journal) who answer (made next.journal)
+  is_turn next answer well accepted sound run answer_is next_is =
       let same = events-made m.journal in
       let at : List Event → Configuration = configuration_after m.setup in
       record {
@@ -180,6 +212,9 @@ module _ (m : Machine) (who : ℕ) where
                   ∙ ap (λ (es : List Event). after (at es) event) (sym same);
             };
         sound = subst (λ (es : List Event). Sound m.setup es (at es)) (sym same) sound;
+        past =
+            is_history m.setup next.journal well accepted
+            (subst (λ (s : Setup). Run s next.journal (configuration_after s next.journal)) (keeps_setup next next_is) run);
       }
 
 -- ---- a turn of a seat
@@ -198,3 +233,9 @@ ended setup who answer seen mine later_seen later_mine e (inl t) =
     finished setup t.0 later_seen who (subst (λ (a : Moved). IsTurn setup t.0 who a later_seen) e t.5)
 ended setup who answer seen mine later_seen later_mine e (inr t) =
     finished setup later_seen later_seen who (subst (λ (a : Moved). IsTurn setup later_seen who a later_seen) e t.2)
+
+-- What the seat has seen is a history of the setup.
+pub history_seen : (setup : Setup) (who : ℕ) (answer : Moved) (seen mine later_seen later_mine : List (ℕ × Event))
+    → Turns who (λ before after. IsTurn setup before who answer after) seen mine later_seen later_mine → IsHistory setup later_seen
+history_seen setup who answer seen mine later_seen later_mine (inl t) = t.5.past
+history_seen setup who answer seen mine later_seen later_mine (inr t) = t.2.past

@@ -9,7 +9,7 @@ use Rattle.ruled_turn.specs.Entries.{GoesOn}
 use Rattle.ruled_turn.specs.Seats.{given, IsSeatOf, number, seen, mine, turns}
 use Rattle.race_run.specs.declared.racing.Racing.{Racing}
 use Rattle.race_run.specs.contracts.racing.RacingTurned.TheImpl.{ghosts}
-use Rattle.race_run.specs.Histories.{IsAtEnd}
+use Rattle.race_run.specs.Histories.{IsAtEnd, IsHistory}
 
 -- A machine that seats share.
 abbrev pub Shared : Type 0
@@ -27,9 +27,14 @@ setup_of shared = (given shared).machine.setup
 abbrev pub IsSeat : Shared → Seat → Type 0
 IsSeat shared seat = IsSeatOf ghosts.base ghosts.admits shared seat
 
--- The script of the seat's board is at its end in the configuration that the setup and what the seat has seen give.
+-- The script of the seat's board is at its end in the configuration that the setup and what the seat has seen give, and what the seat has seen is a history of the setup.
+pub record IsThrough (setup : Setup) (seat : Seat) : Type 0 where
+  pub ended : IsAtEnd setup (seen seat) (number seat)
+  pub history : IsHistory setup (seen seat)
+
+-- The same of a seat of a machine that is shared.
 abbrev pub IsDone : Shared → Seat → Type 0
-IsDone shared seat = IsAtEnd (setup_of shared) (seen seat) (number seat)
+IsDone shared seat = IsThrough (setup_of shared) seat
 
 -- It is the same seat later: it keeps its number, and what it had seen and its own entries go on.
 pub record IsLater (before after : Seat) : Type 0 where

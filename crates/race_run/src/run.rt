@@ -7,7 +7,7 @@ ghost use Rattle.bus_model.specs.Soundness.{Sound};
 ghost use Rattle.backplane.specs.Machine.{configuration};
 ghost use Rattle.ruled_turn.specs.Entries.{GoesOn};
 ghost use Rattle.ruled_turn.specs.Seats.{given, seats_of, number, seen, turns};
-ghost use Rattle.race_run.specs.Histories.{made};
+ghost use Rattle.race_run.specs.Histories.{made, AreSteps};
 ghost use Rattle.race_run.specs.Workers.{IsSeat, HasWorked, AreLater};
 ghost use Rattle.race_run.specs.Races.{GoesOnFrom};
 
@@ -111,11 +111,17 @@ pub fn race<G: Gate + Sync, R: Threads + Wait + Sync>(
     ensures setup { IfOk result (λ m. m.setup ≡ machine.setup) }
     ensures journal { IfOk result (λ m. GoesOnFrom machine.journal m.journal) }
     ensures finished { IfOk result (λ m. Complete m.setup (configuration m)) }
+
+    // Each event is a step from what the events before it give, which is sound.
+    ensures steps { IfOk result (λ m. AreSteps m.setup m.journal) }
+
     ensures handed_back { IfErr result (λ f. f.machine ≡ machine) }
 {
     let (shared, mut seats) = open(alloc, machine)?;
     work_each(rt, &shared, &mut seats, gate);
     let spent = is_any_spent(seats.as_slice());
     let machine = close(shared, seats);
-    Ok(ended(machine, spent))
+    let machine = ended(machine, spent);
+    let _journal = machine.journal();
+    Ok(machine)
 }

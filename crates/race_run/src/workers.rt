@@ -49,7 +49,7 @@ pub fn work<G: Gate, R: Wait>(
     ensures seen { GoesOn (seen seat.old) (seen seat.new) }
     ensures mine { GoesOn (mine seat.old) (mine seat.new) }
 
-    // The last turn found the script at its end.
+    // The last turn found the script at its end, and each entry of what the seat has then seen is a step of its board.
     ensures ended { OnOk result (IsDone shared.now seat.new) }
     ensures turned { OnOk result (turns seat.old < turns seat.new) }
 
