@@ -45,6 +45,7 @@ fn said(rt: &HostRuntime, text: &str) -> Result<(Vec<u8>, u8), Fail> {
     let mut shelf = SureShelf::new(files(alloc)?);
     let mut sink = MemSink::new(alloc, 2000, 7, Vec::new(alloc))?;
     let status = top(
+        rt,
         alloc,
         &words(alloc, text)?,
         &mut shelf,
