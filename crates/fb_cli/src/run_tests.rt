@@ -64,6 +64,7 @@ fn runs_are_printed_and_replayed(rt: HostRuntime) -> Result<(), Fail> {
         ("show F", SETUP, 0),
         ("run F S", whole.as_str(), 0),
         ("run F seed 3", whole.as_str(), 0),
+        ("race F", whole.as_str(), 0),
         ("replay F T", ENDING, 0),
         ("replay F S", "fault trace unfinished 1\n", 1),
         ("replay F F", "fault trace line 1 spelling\n", 1),
@@ -74,6 +75,17 @@ fn runs_are_printed_and_replayed(rt: HostRuntime) -> Result<(), Fail> {
         assert_eq!(rt; printed.as_slice(), want.as_bytes(), "{text}");
         assert_eq!(rt; ended, status, "{text}");
     }
+    Ok(())
+}
+
+#[test]
+fn plain_knows_no_race(rt: HostRuntime) -> Result<(), Fail> {
+    let alloc = rt.alloc();
+    let mut shelf = SureShelf::new(files(alloc)?);
+    let mut sink = MemSink::new(alloc, 100, 100, Vec::new(alloc))?;
+    let status = plain(alloc, &words(alloc, "race F")?, &mut shelf, &mut sink);
+    assert_eq!(rt; status, 2);
+    assert_eq!(rt; sink.taken(), b"fault words\n".as_slice());
     Ok(())
 }
 
