@@ -1,9 +1,10 @@
 -- The frames of boards in the pool that all boards share.
-use Rattle.std.specs.Prelude.{◌≡◌, ℕ, ◌≤◌, Bool, false, ◌==◌, cond, List, [], ◌∷◌, length, slice_index_or, if◌then◌else◌}
+use Rattle.std.specs.Prelude.{◌≡◌, ℕ, ◌≤◌, Bool, false, ◌==◌, cond, List, [], ◌∷◌, All, AllPairs, Contains, length, map, slice_index_or, if◌then◌else◌}
 use Rattle.moesi_state.specs.declared.State.{State}
 use Rattle.moesi_state.specs.States.{holds}
 use Rattle.bus_model.specs.Places.{count_where}
-use Rattle.line_pool.specs.Pools.{Pool, words_of, with_words, with_out, count_out}
+use Rattle.bus_model.specs.Configuration.{Row}
+use Rattle.line_pool.specs.Pools.{Pool, IsOut, words_of, with_words, with_out, count_out}
 use Rattle.board.specs.declared.frame.Frame.{Frame}
 use Rattle.board.specs.Frames.{is_line}
 
@@ -23,7 +24,15 @@ times_out pool number = cond (slice_index_or pool.out number false) 1 0
 pub record AreOut (pool : Pool) (frames : List Frame) : Type 0 where
   pub once : (number : ℕ) → number_count number frames ≤ times_out pool number
 
--- What the pool is to the rows of all boards: a frame that is out is the frame of exactly one row, a frame that is free is that of none, and there are as many frames as all sets have ways.
+-- The rows of a rack and the pool of its frames: each row has a frame that is out, no two rows have one frame, each frame that is out is the frame of a row, and the words of a row are the pool's words of its frame.
+pub record RowsHaveFrames (pool : Pool) (rows : List Row) : Type 0 where
+  pub numbers : List ℕ
+  pub words : map (λ (row : Row). row.words) rows ≡ map (words_of pool) numbers
+  pub out : All (IsOut pool) numbers
+  pub apart : AllPairs (λ a b. a ≡ b → ⊥) numbers
+  pub used : (number : ℕ) → IsOut pool number → Contains numbers number
+
+-- What the pool is to the frames of all boards: a frame that is out is the frame of exactly one board's line, a frame that is free is that of none, and there are as many frames as all sets have ways.
 pub record FramesHold (pool : Pool) (frames : List Frame) (ways : ℕ) : Type 0 where
   pub once : (number : ℕ) → number_count number frames ≡ times_out pool number
   pub counted : count_out pool.out ≡ length frames
