@@ -1,9 +1,9 @@
 -- Each row has a frame of its own in the pool.
-use Rattle.std.proofs.Common.{◌≡◌, ℕ, zero, suc, ◌+◌, ◌<◌, ◌≤◌, Bool, true, false, List, [], ◌∷◌, ◌++◌, length, map, get_or, refl, ap, sym, ◌∙◌, arith, ◌⊎◌, inl, inr}
+use Rattle.std.proofs.Common.{◌≡◌, ℕ, zero, suc, ◌<◌, ◌≤◌, List, [], ◌∷◌, ◌++◌, length, map, get_or, refl, ap, sym, ◌∙◌, arith, ◌⊎◌, inl, inr}
 use Rattle.std.specs.Prelude.{Contains}
 use Rattle.std.proofs.lemmas.List.{map-append}
 use Rattle.bus_model.specs.Configuration.{Row}
-use Rattle.line_pool.specs.Pools.{Pool, IsOut, words_of}
+use Rattle.line_pool.specs.Pools.{Pool, words_of}
 use Rattle.board.specs.declared.frame.Frame.{Frame}
 use Rattle.board.specs.Frames.{row_of}
 use Rattle.board.specs.Pooled.{FramesHold, RowsHaveFrames, number_count}
@@ -64,12 +64,12 @@ rows-have pool ss ways h = record {
   numbers = numbers_of (frames_of ss);
   words = all-words pool 1 ss;
   out = λ k d l.
-    counted-out pool (get_or (numbers_of (frames_of ss)) k d)
-    (let o = h.once (get_or (numbers_of (frames_of ss)) k d) in let c = once-in (frames_of ss) k d l in omega arith);
+      counted-out pool (get_or (numbers_of (frames_of ss)) k d)
+      (let o = h.once (get_or (numbers_of (frames_of ss)) k d) in let c = once-in (frames_of ss) k d l in omega arith);
   apart = λ i j d l m e.
-    let o = h.once (get_or (numbers_of (frames_of ss)) j d) in
-    let t = times-most pool (get_or (numbers_of (frames_of ss)) j d) in
-    let c = twice-in (frames_of ss) i j d l m e in
-    absurd (omega arith);
+      let o = h.once (get_or (numbers_of (frames_of ss)) j d) in
+      let t = times-most pool (get_or (numbers_of (frames_of ss)) j d) in
+      let c = twice-in (frames_of ss) i j d l m e in
+      absurd (omega arith);
   used = λ n o. found-in (frames_of ss) n (let k = h.once n in let t = out-times pool n o in omega arith);
 }

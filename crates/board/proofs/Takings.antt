@@ -1,5 +1,5 @@
 -- What a pool is after the frames of a line got other words or came back.
-use Rattle.std.proofs.Common.{◌≡◌, ℕ, zero, suc, ◌+◌, ◌<◌, ◌≤◌, Bool, true, false, cond, List, [], ◌∷◌, length, get_or, drop, drop-cons, add-one, refl, ap, sym, ◌∙◌, arith, ◌⊎◌, inl, inr}
+use Rattle.std.proofs.Common.{◌≡◌, ℕ, zero, suc, ◌+◌, ◌<◌, ◌≤◌, Bool, true, false, cond, List, [], ◌∷◌, length, get_or, drop, drop-cons, refl, ap, sym, ◌∙◌, arith, ◌⊎◌, inl, inr}
 use Rattle.std.specs.Prelude.{filter, slice_index_or, slice_set, ◌==◌}
 use Rattle.std.proofs.lemmas.Bool.Decides.{nat_tests}
 use Rattle.std.proofs.lemmas.List.{get_or-set_same, get_or-set_other}
@@ -20,12 +20,6 @@ bit false = inr refl
 
 pub same-or-other : (n m : ℕ) → (n ≡ m) ⊎ (n ≡ m → ⊥)
 same-or-other n m = elim (bit (n == m)) [ inl e ↦ inl (grind (arith, nat_tests)) | inr e ↦ inr (λ z. grind (arith, nat_tests)) ]
-
-pub number-same : (f : Frame) (n : ℕ) → n ≡ f.number → has_number n f ≡ true
-number-same f n e = grind (arith, nat_tests)
-
-pub number-other : (f : Frame) (n : ℕ) → (n ≡ f.number → ⊥) → has_number n f ≡ false
-number-other f n h = grind (arith, nat_tests)
 
 in-list : (xs : List Bool) (n : ℕ) → slice_index_or xs n false ≡ true → n < length xs
 in-list [] n e = cc
@@ -269,23 +263,5 @@ listed (f ∷ fs) (suc i) d h = let r = listed fs i d (omega arith) in omega ari
 pub at-out : (pool : Pool) (fs : List Frame) (i : ℕ) (d : Frame) → i < length fs → AreOut pool fs → IsOut pool (get_or fs i d).number
 at-out pool fs i d h out = counted-out pool (get_or fs i d).number (let o = out.once (get_or fs i d).number in let l = listed fs i d h in omega arith)
 
-pub changed-step : (line : ℕ) (words : List ℕ → List ℕ) (fs : List Frame) (i : ℕ) (d : Frame) (pool : Pool) → i < length fs
-    → with_changed line words (drop i fs) pool ≡ with_changed line words (drop (i + 1) fs) (worded (is_line line (get_or fs i d)) words (get_or fs i d) pool)
-changed-step line words fs i d pool h = rw (add-one, drop-cons fs i d h) refl
-
-pub given-step : (line : ℕ) (fs : List Frame) (i : ℕ) (d : Frame) (pool : Pool) → i < length fs
-    → with_given line (drop i fs) pool ≡ with_given line (drop (i + 1) fs) (freed (is_line line (get_or fs i d)) (get_or fs i d) pool)
-given-step line fs i d pool h = rw (add-one, drop-cons fs i d h) refl
-
-pub drop-given : (pool : Pool) (fs : List Frame) (i : ℕ) (d : Frame) → i < length fs → AreOut pool (drop i fs) → AreOut (with_out pool (get_or fs i d).number false) (drop (i + 1) fs)
-drop-given pool fs i d h out = rw add-one (given-out pool (get_or fs i d) (drop (suc i) fs) (rw (drop-cons fs i d h) at out))
-
-pub drop-out : (pool : Pool) (fs : List Frame) (i : ℕ) (d : Frame) → i < length fs → AreOut pool (drop i fs) → AreOut pool (drop (i + 1) fs)
-drop-out pool fs i d h out = rw add-one (tail-out pool (get_or fs i d) (drop (suc i) fs) (rw (drop-cons fs i d h) at out))
-
 pub drop-head : (pool : Pool) (fs : List Frame) (i : ℕ) (d : Frame) → i < length fs → AreOut pool (drop i fs) → IsOut pool (get_or fs i d).number
 drop-head pool fs i d h out = head-out pool (get_or fs i d) (drop (suc i) fs) (rw (drop-cons fs i d h) at out)
-
-pub worded-list : (b : Bool) (words : List ℕ → List ℕ) (f : Frame) (pool : Pool) (fs : List Frame) → AreOut pool fs → AreOut (worded b words f pool) fs
-worded-list true words f pool fs h = record { once = h.once }
-worded-list false words f pool fs h = h

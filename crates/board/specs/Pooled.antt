@@ -32,7 +32,7 @@ pub record RowsHaveFrames (pool : Pool) (rows : List Row) : Type 0 where
   pub apart : AllPairs (λ a b. a ≡ b → ⊥) numbers
   pub used : (number : ℕ) → IsOut pool number → Contains numbers number
 
--- What the pool is to the frames of all boards: a frame that is out is the frame of exactly one board's line, a frame that is free is that of none, and there are as many frames as all sets have ways.
+-- The pool and the frames of all boards, which is kept by every call: a frame that is out is the frame of exactly one row, a frame that is free is that of none, and there are as many frames as all sets have ways.
 pub record FramesHold (pool : Pool) (frames : List Frame) (ways : ℕ) : Type 0 where
   pub once : (number : ℕ) → number_count number frames ≡ times_out pool number
   pub counted : count_out pool.out ≡ length frames

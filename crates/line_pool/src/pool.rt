@@ -123,7 +123,8 @@ impl LinePool {
         requires { IsOut self.now frame }
         ensures { result ≡ words_of self.now frame }
     {
-        self.words[frame.0 as usize]
+        let place = frame.0 as usize;
+        self.words[place]
     }
 
     /// Sets a word of a frame that is out.
