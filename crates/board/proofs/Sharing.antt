@@ -1,9 +1,9 @@
 -- Each row has a frame of its own in the pool.
 use Rattle.std.proofs.Common.{◌≡◌, ℕ, zero, suc, ◌<◌, ◌≤◌, List, [], ◌∷◌, ◌++◌, length, map, get_or, refl, ap, sym, ◌∙◌, arith, ◌⊎◌, inl, inr}
 use Rattle.std.specs.Prelude.{Contains}
-use Rattle.std.proofs.lemmas.List.{map-append}
+use Rattle.std.proofs.lemmas.List.{length-map, map-append}
 use Rattle.bus_model.specs.Configuration.{Row}
-use Rattle.line_pool.specs.Pools.{Pool, words_of}
+use Rattle.line_pool.specs.Pools.{Pool, IsOut, words_of}
 use Rattle.board.specs.declared.frame.Frame.{Frame}
 use Rattle.board.specs.Frames.{row_of}
 use Rattle.board.specs.Pooled.{FramesHold, RowsHaveFrames, number_count}
@@ -73,3 +73,12 @@ rows-have pool ss ways h = record {
       absurd (omega arith);
   used = λ n o. found-in (frames_of ss) n (let k = h.once n in let t = out-times pool n o in omega arith);
 }
+
+-- Where a rack has a row and its pool one frame, this frame is out.
+pub one-frame : (pool : Pool) (rows : List Row) → RowsHaveFrames pool rows → 1 ≤ length rows → length pool.out ≡ 1 → IsOut pool 0
+one-frame pool rows h some one =
+    let long : length rows ≡ length h.numbers = sym (length-map rows (λ (row : Row). row.words)) ∙ ap (λ (ws : List (List ℕ)). length ws) h.words ∙ length-map h.numbers (words_of pool) in
+    let out = h.out 0 0 (omega arith) in
+    let i = out.inside in
+    let zero : get_or h.numbers 0 0 ≡ 0 = omega arith in
+    rw zero at out

@@ -3,6 +3,7 @@
 use super::Rack;
 use crate::tests::narrow_rack;
 use bus_signals::{Addr, BoardNo, LineNo};
+use line_pool::FrameNo;
 use moesi_state::State;
 use std::test::Fail;
 
@@ -17,6 +18,7 @@ fn one_frame_is_out_after_an_eviction(rt: HostRuntime) -> Result<(), Fail> {
     rack.put_word(board, Addr(4), 2);
     assert_eq!(rt; rack.words(board, LineNo(1)), Some([2, 0, 0, 0]));
     assert_eq!(rt; rack.words(board, LineNo(0)), None);
+    assert_eq!(rt; rack.pool().words(FrameNo(0)), [2, 0, 0, 0]);
     let Rack { mut pool, .. } = rack;
     assert!(rt; pool.take().is_none());
     Ok(())
