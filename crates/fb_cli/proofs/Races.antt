@@ -80,10 +80,11 @@ report_gives setup tables refused a is same told outcome can =
 race_answered : {E : Type 0} (setup : Setup) (came : Result Answer E) → list_all is_accepted setup.tables ≡ true
     → IfOk came (λ (a : Answer). IsRunOutput setup (answer_output a)) → IfOk came CanPrint → GivesRace setup (answered came)
 race_answered setup (Ok a) accepted runs can =
-    let zero = runs.0 in
-    (run_may setup (answer_output a) accepted runs,
-     ((omega (arith, zero), λ two. omega (arith, zero, two)), λ high. omega (arith, zero, high)),
-     can)
+    let zero = runs.0 in (
+      run_may setup (answer_output a) accepted runs,
+      ((omega (arith, zero), λ two. omega (arith, zero, two)), λ high. omega (arith, zero, high)),
+      can,
+    )
 race_answered setup (Err e) accepted runs can = tt
 
 pub race_gives : {E : Type 0} (setup : Setup) (tables : List Table) (came : Result Answer E) (reply : Reply) → tables ≡ setup.tables → list_all is_accepted tables ≡ true
@@ -151,6 +152,7 @@ file_status bytes o may = ap (λ (p : Output). p.status) may.is ∙ go (nat_lt (
         → (on_read roles.Setup may.wanted came).status ≡ (on_read roles.Setup (λ (s : Setup). if_accepted s nothing) came).status
     read (Ok setup) is short = setup_status setup (may.wanted setup) (may.races setup (short, is))
     read (Err fault) is short = refl
+
     go : (b : Bool) → nat_lt (limit_of roles.Setup) (length bytes) ≡ b
         → (if b then long_output roles.Setup else on_read roles.Setup may.wanted (setup_at (unread bytes))).status
         ≡ (if b then long_output roles.Setup else on_read roles.Setup (λ (s : Setup). if_accepted s nothing) (setup_at (unread bytes))).status

@@ -5,7 +5,9 @@ use backplane::assemble;
 use fb_edge::{MemShelf, MemSink, OpenGate, SureShelf, SureSink};
 use setup_text::read_setup;
 use std::alloc::{AllocError, Global};
+use std::sync::Wait;
 use std::test::Fail;
+use std::thread::Threads;
 
 const SETUP: &str =
     "memory 1\ntable un\nI read = I urd\nI write = I uwr\nI pass = I\nI flush = I\nend\n\
@@ -40,8 +42,11 @@ fn files(alloc: Global) -> Result<Vec<(String, Vec<u8>)>, AllocError> {
 }
 
 /// What the words print, and the status.
-fn said(rt: &HostRuntime, text: &str) -> Result<(Vec<u8>, u8), Fail> {
-    let alloc = rt.alloc();
+fn said<R: Threads + Wait + Sync>(
+    rt: &R,
+    alloc: Global,
+    text: &str,
+) -> Result<(Vec<u8>, u8), Fail> {
     let mut shelf = SureShelf::new(files(alloc)?);
     let mut sink = MemSink::new(alloc, 2000, 7, Vec::new(alloc))?;
     let status = top(
@@ -71,7 +76,7 @@ fn runs_are_printed_and_replayed(rt: HostRuntime) -> Result<(), Fail> {
         ("run F F", "fault schedule line 1 number\n", 3),
     ];
     for (text, want, status) in rows {
-        let (printed, ended) = said(&rt, text)?;
+        let (printed, ended) = said(&rt, alloc, text)?;
         assert_eq!(rt; printed.as_slice(), want.as_bytes(), "{text}");
         assert_eq!(rt; ended, status, "{text}");
     }
