@@ -1,12 +1,11 @@
 -- A frame that is found holds its line, so a board has no row exactly where its state is I.
 use Rattle.std.proofs.Common.{◌≡◌, ℕ, Bool, true, false, cond, List, [], ◌∷◌, refl, Option, Some, None, ◌↔◌}
-use Rattle.std.specs.Prelude.{IfSome, IsNone, IsTrue, option_map, unwrap_or}
+use Rattle.std.specs.Prelude.{IfSome, IsNone, IsTrue, is_none, not, option_map, unwrap_or}
 use Rattle.moesi_state.specs.declared.State.{State}
 use Rattle.moesi_state.specs.declared.State.TheVariants.{M, O, E, S, I}
 use Rattle.moesi_state.specs.States.{holds}
-use Rattle.bus_model.specs.Configuration.{Row}
 use Rattle.board.specs.declared.frame.Frame.{Frame}
-use Rattle.board.specs.Frames.{AllHeld, frame_at, is_line, row_of}
+use Rattle.board.specs.Frames.{AllHeld, frame_at, is_line}
 
 found-held-by : (t : Bool) (f : Frame) (o : Option Frame) → IsTrue (holds f.state) → IfSome o (λ x. IsTrue (holds x.state)) → IfSome (cond t (Some f) o) (λ x. IsTrue (holds x.state))
 found-held-by true f o h k = h
@@ -23,8 +22,12 @@ held-state E h e = cc
 held-state S h e = cc
 held-state I h e = cc
 
--- No row, exactly where the state is I.
-pub none-invalid : (board : ℕ) (o : Option Frame) → IfSome o (λ f. IsTrue (holds f.state))
-    → IsNone o ↔ (unwrap_or (option_map (λ (row : Row). row.state) (option_map (row_of board) o)) I ≡ I)
-none-invalid board None h = (λ _. refl, λ _. refl)
-none-invalid board (Some f) h = (λ e. cc, λ e. absurd (held-state f.state h e))
+-- No frame, exactly where the state is I.
+pub none-invalid : (o : Option Frame) → IfSome o (λ f. IsTrue (holds f.state)) → IsNone o ↔ (unwrap_or (option_map (λ (f : Frame). f.state) o) I ≡ I)
+none-invalid None h = (λ _. refl, λ _. refl)
+none-invalid (Some f) h = (λ e. cc, λ e. absurd (held-state f.state h e))
+
+-- A line has no frame, exactly where its state holds nothing.
+pub none-held : (o : Option Frame) → IfSome o (λ f. IsTrue (holds f.state)) → is_none o ≡ not (holds (unwrap_or (option_map (λ (f : Frame). f.state) o) I))
+none-held None h = refl
+none-held (Some f) h = rw h refl

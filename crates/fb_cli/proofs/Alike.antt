@@ -45,7 +45,7 @@ run_replayed setup events holds =
     (record { run = record { spelled = holds.spelled; are = lines ∙ sym (append-nil (event_lines events)); run = holds.run }; complete = holds.complete })
 
 -- A file that is not too long is not refused for its length.
-is_within : (role : Role) (bytes : List ℕ) (wanted : Output) → length bytes ≤ limit_of role → within role bytes wanted ≡ wanted
+pub is_within : (role : Role) (bytes : List ℕ) (wanted : Output) → length bytes ≤ limit_of role → within role bytes wanted ≡ wanted
 is_within role bytes wanted short = let no : nat_lt (limit_of role) (length bytes) ≡ false = grind (arith, nat_tests) in rw no refl
 
 pub replayed_alike : (bytes : List ℕ) (setup : Setup) (events : List Event) → AreSetup setup bytes → RunHolds setup events

@@ -76,3 +76,10 @@ wrote (Some (run_seeded setup seed)) (Some bytes_of) B before after reply answer
 wrote (Some (replay setup trace)) (Some bytes_of) B before after reply answer replies written prints = tt
 wrote (Some (make seed)) (Some bytes_of) B before after reply answer replies written prints = tt
 wrote (Some (tally seed)) (Some bytes_of) B before after reply answer replies written prints = tt
+
+-- The same of a race of a file.
+pub race_wrote : (name : List ℕ) (file : Option (List ℕ → List ℕ)) (B : Type 0) (before after : Option (List ℕ)) (reply : Reply) (answer : ℕ)
+    → RunsFile file name reply → WrittenAs (reply_output reply) B before after answer → PrintsRun reply answer
+    → IfSome file (λ bytes_of. answer ≡ 0 → RunWrote name bytes_of before after)
+race_wrote name None B before after reply answer runs written prints = tt
+race_wrote name (Some bytes_of) B before after reply answer runs written prints = run_wrote name bytes_of B before after reply answer runs written prints

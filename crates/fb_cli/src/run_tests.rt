@@ -5,7 +5,9 @@ use backplane::assemble;
 use fb_edge::{MemShelf, MemSink, OpenGate, SureShelf, SureSink};
 use setup_text::read_setup;
 use std::alloc::{AllocError, Global};
+use std::sync::Wait;
 use std::test::Fail;
+use std::thread::Threads;
 
 const SETUP: &str =
     "memory 1\ntable un\nI read = I urd\nI write = I uwr\nI pass = I\nI flush = I\nend\n\
@@ -40,11 +42,15 @@ fn files(alloc: Global) -> Result<Vec<(String, Vec<u8>)>, AllocError> {
 }
 
 /// What the words print, and the status.
-fn said(rt: &HostRuntime, text: &str) -> Result<(Vec<u8>, u8), Fail> {
-    let alloc = rt.alloc();
+fn said<R: Threads + Wait + Sync>(
+    rt: &R,
+    alloc: Global,
+    text: &str,
+) -> Result<(Vec<u8>, u8), Fail> {
     let mut shelf = SureShelf::new(files(alloc)?);
     let mut sink = MemSink::new(alloc, 2000, 7, Vec::new(alloc))?;
     let status = top(
+        rt,
         alloc,
         &words(alloc, text)?,
         &mut shelf,
@@ -63,16 +69,28 @@ fn runs_are_printed_and_replayed(rt: HostRuntime) -> Result<(), Fail> {
         ("show F", SETUP, 0),
         ("run F S", whole.as_str(), 0),
         ("run F seed 3", whole.as_str(), 0),
+        ("race F", whole.as_str(), 0),
         ("replay F T", ENDING, 0),
         ("replay F S", "fault trace unfinished 1\n", 1),
         ("replay F F", "fault trace line 1 spelling\n", 1),
         ("run F F", "fault schedule line 1 number\n", 3),
     ];
     for (text, want, status) in rows {
-        let (printed, ended) = said(&rt, text)?;
+        let (printed, ended) = said(&rt, alloc, text)?;
         assert_eq!(rt; printed.as_slice(), want.as_bytes(), "{text}");
         assert_eq!(rt; ended, status, "{text}");
     }
+    Ok(())
+}
+
+#[test]
+fn plain_knows_no_race(rt: HostRuntime) -> Result<(), Fail> {
+    let alloc = rt.alloc();
+    let mut shelf = SureShelf::new(files(alloc)?);
+    let mut sink = MemSink::new(alloc, 100, 100, Vec::new(alloc))?;
+    let status = plain(alloc, &words(alloc, "race F")?, &mut shelf, &mut sink);
+    assert_eq!(rt; status, 2);
+    assert_eq!(rt; sink.taken(), b"fault words\n".as_slice());
     Ok(())
 }
 

@@ -118,6 +118,15 @@ impl LinePool {
         self.words[frame.0 as usize][offset as usize]
     }
 
+    /// The four words of a frame that is out.
+    pub fn words(&self, frame: FrameNo) -> [u32; 4]
+        requires { IsOut self.now frame }
+        ensures { result ≡ words_of self.now frame }
+    {
+        let place = frame.0 as usize;
+        self.words[place]
+    }
+
     /// Sets a word of a frame that is out.
     pub fn set_word(&mut self, frame: FrameNo, offset: u8, value: u32)
         requires frame { IsOut self.old frame }

@@ -15,6 +15,7 @@ fn one_frame_is_taken_once(rt: HostRuntime) -> Result<(), Fail> {
     pool.set_word(frame, 2, 9);
     assert_eq!(rt; pool.word(frame, 2), 9);
     assert_eq!(rt; pool.word(frame, 3), 4);
+    assert_eq!(rt; pool.words(frame), [1, 2, 9, 4]);
     pool.give(frame);
     assert_eq!(rt; pool.take(), Some(FrameNo(0)));
     Ok(())

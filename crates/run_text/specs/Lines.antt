@@ -1,13 +1,12 @@
 -- The lines in which a run ends: the replies to reads, the memory, and the copies.
 use Rattle.std.specs.Prelude.{ℕ, zero, suc, List, [], ◌∷◌, ◌++◌, map, Option, Some, None, codes, decimal}
-use Rattle.std.specs.List.{flat_map}
 use Rattle.fb_text.specs.Written.{line_bytes}
 use Rattle.bus_signals.specs.declared.Access.{Access}
 use Rattle.bus_signals.specs.declared.Access.TheVariants.{Read, Write, Pass, Flush}
 use Rattle.moesi_state.specs.declared.State.{State}
 use Rattle.class_words.specs.Words.{state_word}
 use Rattle.bus_model.specs.Entries.{Entry}
-use Rattle.bus_model.specs.Configuration.{Row, row_at}
+use Rattle.bus_model.specs.Configuration.{Row}
 
 -- The numbers from 0 up to this one, which is left out.
 abbrev pub numbers_below : ℕ → List ℕ

@@ -7,15 +7,16 @@
 //! ```
 //!
 //! The replies stand board by board in the order of their scripts, PLACE being the place of the access in the script from
-//! 1; then each line of memory; then the copies board by board in order of line. No call here takes memory.
+//! 1; then each line of memory; then the copies board by board in order of line. Lines wait in a page on the stack, which is
+//! written when it has no room for one more, and at the end. No call here takes memory.
 #![tactic(auto)]
 
 mod lines;
+mod page;
 mod printing;
 mod run;
 #[cfg(test)]
 mod tests;
 
 pub use lines::{write_copy, write_memory, write_reply};
-pub use printing::{print_events, print_replies};
 pub use run::{print_ending, print_run};

@@ -1,4 +1,4 @@
-//! The pieces of a run, printed line by line through one line of room.
+//! The pieces of a run, spelled line by line in one line of room, and printed through a page.
 
 ghost use Rattle.std.specs.Prelude.{◌≡◌, ◌≤◌, ◌+◌, ◌++◌, [], length, OnOk};
 ghost use Rattle.std.specs.List.{flat_map, AllByRecursion};
@@ -7,10 +7,11 @@ ghost use Rattle.trace_text.specs.Spelling.{line_of_event};
 ghost use Rattle.run_lines.specs.RunLines.{IsTyped};
 ghost use Rattle.run_text.specs.Lines.{entry_line};
 ghost use Rattle.run_text.specs.RunText.{events_text};
-ghost use Rattle.run_text.specs.Printing.{Printed, IsReady};
+ghost use Rattle.run_text.specs.Printing.{Paged, IsReady};
 
 use crate::lines::write_reply;
-use fb_edge::{PutFailed, Sink, put_all};
+use crate::page::Page;
+use fb_edge::{PutFailed, Sink};
 use fb_text::Text;
 use flat_memory::Entry;
 use journal::Event;
@@ -18,44 +19,54 @@ use run_lines::is_typed;
 use trace_text::write_event;
 
 /// Prints a line and empties it.
-pub(crate) fn print_line<K: Sink>(line: &mut Text, sink: &mut K) -> Result<(), PutFailed>
-    ensures printed { Printed (K.faults sink.old) (K.faults sink.new) (K.taken sink.old) (K.taken sink.new) line.old.bytes result }
+pub(crate) fn print_line<K: Sink>(
+    line: &mut Text,
+    page: &mut Page,
+    sink: &mut K,
+) -> Result<(), PutFailed>
+    ensures paged { Paged (K.faults sink.old) (K.faults sink.new) (K.taken sink.old) (K.taken sink.new) page.old page.new line.old.bytes result }
     ensures empty { line.new.bytes ≡ [] }
     ensures room { line.new.spare ≡ line.old.spare + length line.old.bytes }
 {
-    let result = put_all(sink, line.bytes());
+    let result = page.add(line.bytes(), sink);
     line.clear();
     result
 }
 
 /// Prints the line of an event.
-fn print_event<K: Sink>(event: &Event, sink: &mut K, line: &mut Text) -> Result<(), PutFailed>
+fn print_event<K: Sink>(
+    event: &Event,
+    page: &mut Page,
+    sink: &mut K,
+    line: &mut Text,
+) -> Result<(), PutFailed>
     requires ready { IsReady line.old }
     requires spelled { IsTyped event.now → InRange event.now }
-    ensures printed { Printed (K.faults sink.old) (K.faults sink.new) (K.taken sink.old) (K.taken sink.new) (line_of_event event.now) result }
+    ensures paged { Paged (K.faults sink.old) (K.faults sink.new) (K.taken sink.old) (K.taken sink.new) page.old page.new (line_of_event event.now) result }
     ensures in_range { InRange event.now }
     ensures ready { IsReady line.new }
 {
     is_typed(event);
     write_event(event, line);
-    print_line(line, sink)
+    print_line(line, page, sink)
 }
 
 /// Prints the lines of events.
-pub fn print_events<K: Sink>(
+pub(crate) fn print_events<K: Sink>(
     events: &[Event],
+    page: &mut Page,
     sink: &mut K,
     line: &mut Text,
 ) -> Result<(), PutFailed>
     requires ready { IsReady line.old }
     requires spelled { AllByRecursion (λ event. IsTyped event → InRange event) events.now }
-    ensures printed { Printed (K.faults sink.old) (K.faults sink.new) (K.taken sink.old) (K.taken sink.new) (events_text events.now) result }
+    ensures paged { Paged (K.faults sink.old) (K.faults sink.new) (K.taken sink.old) (K.taken sink.new) page.old page.new (events_text events.now) result }
     // Each event has its line.
     ensures in_range { OnOk result (AllByRecursion InRange events.now) }
     ensures ready { IsReady line.new }
 {
     for event in events {
-        if let Err(failed) = print_event(event, sink, line) {
+        if let Err(failed) = print_event(event, page, sink, line) {
             return Err(failed);
         }
     }
@@ -63,27 +74,33 @@ pub fn print_events<K: Sink>(
 }
 
 /// Prints the line of the reply to a completed access, where it is a read.
-fn print_reply<K: Sink>(entry: &Entry, sink: &mut K, line: &mut Text) -> Result<(), PutFailed>
-    requires ready { IsReady line.old }
-    ensures printed { Printed (K.faults sink.old) (K.faults sink.new) (K.taken sink.old) (K.taken sink.new) (entry_line entry.now) result }
-    ensures ready { IsReady line.new }
-{
-    write_reply(entry, line);
-    print_line(line, sink)
-}
-
-/// Prints the lines of the replies to completed accesses.
-pub fn print_replies<K: Sink>(
-    entries: &[Entry],
+fn print_reply<K: Sink>(
+    entry: &Entry,
+    page: &mut Page,
     sink: &mut K,
     line: &mut Text,
 ) -> Result<(), PutFailed>
     requires ready { IsReady line.old }
-    ensures printed { Printed (K.faults sink.old) (K.faults sink.new) (K.taken sink.old) (K.taken sink.new) (flat_map entry_line entries.now) result }
+    ensures paged { Paged (K.faults sink.old) (K.faults sink.new) (K.taken sink.old) (K.taken sink.new) page.old page.new (entry_line entry.now) result }
+    ensures ready { IsReady line.new }
+{
+    write_reply(entry, line);
+    print_line(line, page, sink)
+}
+
+/// Prints the lines of the replies to completed accesses.
+pub(crate) fn print_replies<K: Sink>(
+    entries: &[Entry],
+    page: &mut Page,
+    sink: &mut K,
+    line: &mut Text,
+) -> Result<(), PutFailed>
+    requires ready { IsReady line.old }
+    ensures paged { Paged (K.faults sink.old) (K.faults sink.new) (K.taken sink.old) (K.taken sink.new) page.old page.new (flat_map entry_line entries.now) result }
     ensures ready { IsReady line.new }
 {
     for entry in entries {
-        if let Err(failed) = print_reply(entry, sink, line) {
+        if let Err(failed) = print_reply(entry, page, sink, line) {
             return Err(failed);
         }
     }

@@ -1,12 +1,24 @@
-use Rattle.std.proofs.Common.{drop, suc}
+use Rattle.std.proofs.Common.{drop, suc, arith}
+use Rattle.std.proofs.lemmas.Grind.{common_steps}
 use Rattle.std.specs.List.{flat_map}
 use Rattle.trace_text.specs.Spelling.{line_of_event}
-use Rattle.run_text.proofs.Behind.{failed-behind, flat_map-at}
+use Rattle.run_text.proofs.Behind.{failed-behind, whole-behind, flat_map-at, flat_map-more}
 use Rattle.run_text.proofs.printing.print_events.Goals as goal
 
-pub returns-in-Err-clause-printed : goal.returns-in-Err-clause-printed
-returns-in-Err-clause-printed g c =
+pub returns-in-Err-clause-paged : goal.returns-in-Err-clause-paged
+returns-in-Err-clause-paged g c =
     let items = c.args.events.now in
     let at = c.loop-event.event-index in
-    failed-behind _ _ _ _ _ _ _ _ (flat_map line_of_event (drop (suc at) items)) (flat_map line_of_event items) c.in-Err.failed
-    (flat_map-at line_of_event items at c.event-item.result c.loop-event-test.true c.event-item.is) c.loop-event.invariant.printed c.in-Err.ensures.printed
+    failed-behind (flat_map line_of_event (drop (suc at) items)) (flat_map line_of_event items) c.in-Err.failed
+    (flat_map-at line_of_event items at c.event-item.result c.loop-event-test.true c.event-item.is) c.loop-event.invariant.paged c.in-Err.ensures.paged
+
+pub loop-event-preserved : goal.loop-event-preserved
+loop-event-preserved g c =
+    let items = c.args.events.now in
+    let at = c.loop-event.event-index in
+    record {
+      paged = whole-behind c.in_default.field-0 (flat_map-more line_of_event items at c.event-item.result c.loop-event-test.true c.event-item.is) c.loop-event.invariant.paged c.in_default.ensures.paged;
+      spelled = grind (arith, common_steps);
+      in_range = grind (arith, common_steps);
+      ready = c.in_default.ensures.ready;
+    }

@@ -1,12 +1,21 @@
 use Rattle.std.proofs.Common.{drop, suc}
 use Rattle.std.specs.List.{flat_map}
 use Rattle.run_text.specs.Lines.{entry_line}
-use Rattle.run_text.proofs.Behind.{failed-behind, flat_map-at}
+use Rattle.run_text.proofs.Behind.{failed-behind, whole-behind, flat_map-at, flat_map-more}
 use Rattle.run_text.proofs.printing.print_replies.Goals as goal
 
-pub returns-in-Err-clause-printed : goal.returns-in-Err-clause-printed
-returns-in-Err-clause-printed g c =
+pub returns-in-Err-clause-paged : goal.returns-in-Err-clause-paged
+returns-in-Err-clause-paged g c =
     let items = c.args.entries.now in
     let at = c.loop-entry.entry-index in
-    failed-behind _ _ _ _ _ _ _ _ (flat_map entry_line (drop (suc at) items)) (flat_map entry_line items) c.in-Err.failed
-    (flat_map-at entry_line items at c.entry-item.result c.loop-entry-test.true c.entry-item.is) c.loop-entry.invariant.printed c.in-Err.ensures.printed
+    failed-behind (flat_map entry_line (drop (suc at) items)) (flat_map entry_line items) c.in-Err.failed
+    (flat_map-at entry_line items at c.entry-item.result c.loop-entry-test.true c.entry-item.is) c.loop-entry.invariant.paged c.in-Err.ensures.paged
+
+pub loop-entry-preserved : goal.loop-entry-preserved
+loop-entry-preserved g c =
+    let items = c.args.entries.now in
+    let at = c.loop-entry.entry-index in
+    record {
+      paged = whole-behind c.in_default.field-0 (flat_map-more entry_line items at c.entry-item.result c.loop-entry-test.true c.entry-item.is) c.loop-entry.invariant.paged c.in_default.ensures.paged;
+      ready = c.in_default.ensures.ready;
+    }

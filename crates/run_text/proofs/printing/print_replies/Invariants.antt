@@ -1,11 +1,11 @@
-use Rattle.std.proofs.Common.{◌≡◌, Ok, take}
+use Rattle.std.proofs.Common.{take}
 use Rattle.std.specs.List.{flat_map}
 use Rattle.run_text.specs.Lines.{entry_line}
-use Rattle.run_text.specs.Printing.{Prints, IsReady}
+use Rattle.run_text.specs.Printing.{Pages, IsReady}
 use Rattle.run_text.proofs.printing.print_replies.Given as goal
 
 abbrev pub invariant-loop-entry : goal.invariant-loop-entry
 invariant-loop-entry g l = record {
-  printed : Prints (g.K.Sink.faults l.initial.sink) (g.K.Sink.faults l.sink) (g.K.Sink.taken l.initial.sink) (g.K.Sink.taken l.sink) (flat_map entry_line (take l.entry-index l.entries));
+  paged : Pages (g.K.Sink.faults l.initial.sink) (g.K.Sink.faults l.sink) (g.K.Sink.taken l.initial.sink) (g.K.Sink.taken l.sink) l.initial.page l.page (flat_map entry_line (take l.entry-index l.entries));
   ready : IsReady l.line;
 }

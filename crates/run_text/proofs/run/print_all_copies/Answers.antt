@@ -1,4 +1,4 @@
-use Rattle.std.proofs.Common.{ℕ, suc, drop, arith}
+use Rattle.std.proofs.Common.{suc, drop, arith}
 use Rattle.std.specs.List.{flat_map}
 use Rattle.bus_model.specs.Setup.{board_places, line_count}
 use Rattle.run_text.specs.RunText.{board_copies}
@@ -7,14 +7,14 @@ use Rattle.run_text.proofs.Behind.{failed-behind, whole-behind, done-behind}
 use Rattle.run_text.proofs.Numbers.{places-at, places-more, places-all}
 use Rattle.run_text.proofs.run.print_all_copies.Goals as goal
 
-pub returns-in-Err-clause-printed : goal.returns-in-Err-clause-printed
-returns-in-Err-clause-printed g c =
+pub returns-in-Err-clause-paged : goal.returns-in-Err-clause-paged
+returns-in-Err-clause-paged g c =
     let machine = c.args.machine.now in
     let at = c.loop-place.place in
     let boards = c.boards-place-end.ensures.boards in
     let test = c.loop-place-test.true in
-    failed-behind _ _ _ _ _ _ _ _ (flat_map (board_copies (configuration c.args.machine.now) (line_count c.args.machine.now.setup)) (drop (suc at) (board_places machine.setup))) (flat_map (board_copies (configuration c.args.machine.now) (line_count c.args.machine.now.setup)) (board_places machine.setup)) c.in-Err.failed
-    (places-at (board_copies (configuration c.args.machine.now) (line_count c.args.machine.now.setup)) machine.setup.boards at (omega (arith, boards, test))) c.loop-place.invariant.printed c.in-Err.ensures.printed
+    failed-behind (flat_map (board_copies (configuration c.args.machine.now) (line_count c.args.machine.now.setup)) (drop (suc at) (board_places machine.setup))) (flat_map (board_copies (configuration c.args.machine.now) (line_count c.args.machine.now.setup)) (board_places machine.setup)) c.in-Err.failed
+    (places-at (board_copies (configuration c.args.machine.now) (line_count c.args.machine.now.setup)) machine.setup.boards at (omega (arith, boards, test))) c.loop-place.invariant.paged c.in-Err.ensures.paged
 
 pub loop-place-preserved : goal.loop-place-preserved
 loop-place-preserved g c =
@@ -22,13 +22,13 @@ loop-place-preserved g c =
     let boards = c.boards-place-end.ensures.boards in
     let test = c.loop-place-test.true in
     record {
-      printed = whole-behind _ _ _ _ _ _ _ _ _ c.in_default.field-0 (places-more (board_copies (configuration c.args.machine.now) (line_count c.args.machine.now.setup)) machine.setup.boards c.loop-place.place (omega (arith, boards, test))) c.loop-place.invariant.printed c.in_default.ensures.printed;
+      paged = whole-behind c.in_default.field-0 (places-more (board_copies (configuration c.args.machine.now) (line_count c.args.machine.now.setup)) machine.setup.boards c.loop-place.place (omega (arith, boards, test))) c.loop-place.invariant.paged c.in_default.ensures.paged;
       ready = c.in_default.ensures.ready;
     }
 
-pub returns-clause-printed : goal.returns-clause-printed
-returns-clause-printed g c =
+pub returns-clause-paged : goal.returns-clause-paged
+returns-clause-paged g c =
     let machine = c.args.machine.now in
     let boards = c.boards-place-end.ensures.boards in
     let test = c.loop-place-test.false in
-    done-behind _ _ _ _ _ _ (places-all (board_copies (configuration c.args.machine.now) (line_count c.args.machine.now.setup)) machine.setup.boards c.loop-place.place (omega (arith, boards, test))) c.loop-place.invariant.printed
+    done-behind (places-all (board_copies (configuration c.args.machine.now) (line_count c.args.machine.now.setup)) machine.setup.boards c.loop-place.place (omega (arith, boards, test))) c.loop-place.invariant.paged

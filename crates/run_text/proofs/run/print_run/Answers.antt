@@ -1,15 +1,5 @@
-use Rattle.run_text.proofs.Behind.{both-behind, failed-first}
+use Rattle.run_text.proofs.Behind.{flushed}
 use Rattle.run_text.proofs.run.print_run.Goals as goal
 
-pub returns-in-Err-clause-printed : goal.returns-in-Err-clause-printed
-returns-in-Err-clause-printed g c = failed-first _ _ _ _ _ _ c.in-Err.failed c.in-Err.ensures.printed
-
-pub returns-in-Err-print_end-clause-printed : goal.returns-in-Err-print_end-clause-printed
-returns-in-Err-print_end-clause-printed g c =
-    both-behind _ _ _ _ _ _ _ _ c.in_default.field-0 _ c.in_default.ensures.printed
-    (failed-first _ _ _ _ _ _ c.in-Err-print_end.failed c.in-Err-print_end.ensures.printed)
-
 pub returns-clause-printed : goal.returns-clause-printed
-returns-clause-printed g c =
-    both-behind _ _ _ _ _ _ _ _ c.in_default.field-0 _ c.in_default.ensures.printed
-    (both-behind _ _ _ _ _ _ _ _ c.in_default-print_end.field-0 _ c.in_default-print_end.ensures.printed c.print_ending.ensures.printed)
+returns-clause-printed g c = flushed c.in_default.field-0 c.flush.result c.new-page.ensures c.in_default.ensures.paged c.flush.ensures.printed
