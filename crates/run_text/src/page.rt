@@ -62,6 +62,7 @@ impl Page {
         if self.keep(line) {
             return Ok(());
         }
+        // The line is longer than a page.
         put_all(sink, line)
     }
 }

@@ -1,5 +1,6 @@
 pub mod Cutting
 pub mod Feeds
+pub mod Finding
 pub mod Long
 pub mod Fed
 pub mod Ended

@@ -1,14 +1,13 @@
 //! Reading lines that come piece by piece.
 
 ghost use Rattle.std.specs.Prelude.{◌≡◌, ◌↔◌, ◌<◌, ◌+◌, ◌++◌, [], nat_le, MatchOption, length, take, drop, IsTrue, IsFalse};
-ghost use Rattle.std.specs.List.{position};
-ghost use Rattle.fb_text.specs.Lines.{is_line_feed};
 ghost use Rattle.trace_lines.specs.Reader.{LacksFeed, IsCut, found_in};
 ghost use Rattle.trace_lines.specs.Replaying.{longest};
 
 use arrayvec::ArrayVec;
 use class_words::is;
 use journal::Event;
+use memchr::memchr;
 use std::marker::Model;
 use trace_text::read_event;
 
@@ -41,17 +40,10 @@ impl Model for Reader {
 pub fn first_line(text: &[u8]) -> Option<(&[u8], &[u8])>
     ensures { MatchOption result (LacksFeed text.now) (λ parts. IsCut text.now parts.0.now parts.1.now) }
 {
-    let Some(end) = line_feed_in(text) else {
+    let Some(end) = memchr(b'\n', text) else {
         return None;
     };
     Some(cut(text, end))
-}
-
-/// Where the first line feed stands.
-fn line_feed_in(text: &[u8]) -> Option<usize>
-    ensures { result ≡ position is_line_feed text.now }
-{
-    text.iter().position(|b| *b == b'\n')
 }
 
 /// What stands before a place, and what stands behind it.
