@@ -36,7 +36,7 @@ impl Model for Requests {
     ghost invariant = { λ r. IsContest r.numbers.items };
 }
 
-/// Adds a number behind the first ones of a list, if it competes, and tells how many there are then.
+/// Adds a number after the first ones of a list, if it competes, and tells how many there are then.
 fn add_if(competes: bool, numbers: &mut [u16; 16], count: usize, number: u16) -> usize
     requires { count < 16 }
     ensures numbers { take result numbers.new ≡ take count numbers.old ++ (if competes then number ∷ [] else []) }

@@ -15,7 +15,7 @@ use Rattle.moesi_state.specs.declared.Outcome.{Outcome}
 use Rattle.moesi_state.specs.declared.Outcome.TheVariants.{Fixed, OnHit}
 use Rattle.class_words.specs.Words.{state_word, local_event_word, bus_event_word, outcome_word, state_of, local_event_of, bus_event_of, on_hit, is_on_hit, outcome_of, Reads}
 
--- y was found at this name, or behind it
+-- y was found at this name, or after it
 tried : {A : Type 0} (f : A → List ℕ) (w : List ℕ) (x y : A) (rest : Option A) → (rest ≡ Some y → w ≡ f y) → cond (bytes_eq w (f x)) (Some x) rest ≡ Some y → w ≡ f y
 tried f w x y rest behind e =
     go (bytes_eq w (f x)) refl e

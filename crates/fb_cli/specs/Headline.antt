@@ -72,7 +72,7 @@ RepliesRun (Some (replay setup trace)) file reply = Unit {0}
 RepliesRun (Some (make seed)) file reply = Unit {0}
 RepliesRun (Some (tally seed)) file reply = Unit {0}
 
--- On the bytes of a setup, `replay` of this text gives status 0 and what a run with these events ends in, which stands behind the line `end` there. Only a text that is too long for a trace is refused.
+-- On the bytes of a setup, `replay` of this text gives status 0 and what a run with these events ends in, which stands after the line `end` there. Only a text that is too long for a trace is refused.
 abbrev pub IsReplayedAlike : List ℕ → Setup → List ℕ → List Event → Type 0
 IsReplayedAlike bytes setup text events =
     replay_output bytes text ≡ within roles.Trace text (record { status = 0; text = ending setup events (after_all (opening setup) events) })

@@ -66,7 +66,7 @@ whole opened mid last schedule empty first rest =
     ∙ sym (more_turns opened schedule places)
     ∙ ap (λ (j : List Event). record { setup = opened.setup; journal = j ++ events_of_turns opened.setup (after_all (opening opened.setup) j) (schedule ++ places) }) empty
 
--- What holds of the elements from one on holds of those behind it.
+-- What holds of the elements from one on holds of those after it.
 pub others : {X : Type 0} (P : X → Type 0) (xs : List X) (i : ℕ) → i < length xs → AllByRecursion P (drop i xs) → AllByRecursion P (drop (i + 1) xs)
 others P [] i less h = absurd (omega (arith, less))
 others P (x ∷ xs) zero less h = h.1

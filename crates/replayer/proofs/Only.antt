@@ -26,7 +26,7 @@ passed machine number (event ∷ events) rest all may =
     rw (event_spelled (text_of_event event) event all.0 refl, step_may machine event may.0)
     (passed (happened machine event) (number + 1) events rest all.1 may.1 ∙ ap (λ (n : ℕ). outcome step close (after_events (happened machine event) events) n rest) e)
 
--- What the lines behind those of a run come to.
+-- What the lines after those of a run come to.
 behind : (setup : Setup) (lines : List Line) (events : List Event) (rest : List Line) (number : ℕ) → BeginWithRun setup lines events rest → number ≡ length events + 1
     → outcome step close (opened setup) 1 lines ≡ outcome step close (record { setup = setup; journal = events }) number rest
 behind setup lines events rest number is counted =

@@ -23,7 +23,7 @@ lacks_append (b ∷ x) y h k = (h.0, lacks_append x y h.1 k)
 still : (place old : Place Machine) → place ≡ old → IsReading old → IsReading place
 still place old is reads = subst IsReading (sym is) reads
 
--- The place behind a line with its line feed.
+-- The place after a line with its line feed.
 found_closed : (machine : Machine) (number : ℕ) (bytes : List ℕ) → at_found machine number (found_in bytes) ≡ at_closed step machine number bytes (λ next. reading next (number + 1) [])
 found_closed machine number bytes = at (is_end_word bytes)
   where

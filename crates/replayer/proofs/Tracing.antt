@@ -130,7 +130,7 @@ after_more c (x ∷ xs) ys = after_more (after c x) xs ys
 next_configuration : (machine : Machine) (event : Event) → configuration (happened machine event) ≡ after (configuration machine) event
 next_configuration machine event = after_more (opening machine.setup) machine.journal (event ∷ [])
 
--- The machine after events has them behind its journal.
+-- The machine after events has them after its journal.
 pub after_is : (machine : Machine) (events : List Event) → after_events machine events ≡ record { setup = machine.setup; journal = machine.journal ++ events }
 after_is machine [] = ap (λ (j : List Event). record { setup = machine.setup; journal = j }) (sym (append-nil machine.journal))
 after_is machine (event ∷ events) =

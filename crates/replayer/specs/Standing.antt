@@ -11,7 +11,7 @@ use Rattle.replayer.specs.declared.stage.Stage.{Stage}
 use Rattle.replayer.specs.declared.stage.Stage.TheVariants.{Reading, Ended, Refused}
 use Rattle.replayer.specs.Replaying.{step}
 
--- A replay: the setup of its machine, and its place: reading a line of some number with the bytes of it so far, behind the line `end`, or at a fault.
+-- A replay: the setup of its machine, and its place: reading a line of some number with the bytes of it so far, after the line `end`, or at a fault.
 pub record Replaying : Type 0 where
   pub setup : Setup
   pub place : Place Machine
@@ -36,11 +36,11 @@ IsReading (reading machine number unfinished) = Unit {0}
 IsReading (ended machine) = ⊥
 IsReading (refused fault) = ⊥
 
--- The place behind the line of an event of this number.
+-- The place after the line of an event of this number.
 abbrev pub at_event : Machine → ℕ → Event → Place Machine
 at_event machine number event = by_step refused (λ next. reading next (number + 1) []) number (step machine event)
 
--- The place behind a line of this number, as it was found.
+-- The place after a line of this number, as it was found.
 abbrev pub at_found : Machine → ℕ → Found → Place Machine
 at_found machine number found.End = ended machine
 at_found machine number found.Misspelled = refused (Spelling number)

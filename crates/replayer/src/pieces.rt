@@ -101,7 +101,7 @@ impl Replay {
         self.stage = take(&mut self.machine, found);
     }
 
-    /// The line that is read goes on with these bytes, behind which the piece ends.
+    /// The line that is read goes on with these bytes, after which the piece ends.
     fn keep(&mut self, bytes: &[u8])
         requires reading { IsReading self.old.place }
         requires lacks { LacksFeed bytes.now }

@@ -10,7 +10,7 @@ use fb_text::Text;
 use flat_memory::Entry;
 use moesi_state::State;
 
-/// A number behind a space.
+/// A number after a space.
 fn number(text: &mut Text, value: u64)
     requires { 21 ≤ text.old.spare }
     ensures bytes { text.new.bytes ≡ text.old.bytes ++ 32 ∷ decimal value }
@@ -21,7 +21,7 @@ fn number(text: &mut Text, value: u64)
     text.number(value);
 }
 
-/// Four words, each behind a space.
+/// Four words, each after a space.
 fn four_words(text: &mut Text, words: [u32; 4])
     requires { 84 ≤ text.old.spare }
     ensures bytes { text.new.bytes ≡ text.old.bytes ++ after_words (map decimal words) }

@@ -205,7 +205,7 @@ fn print_journal<K: Sink>(
     print_events(machine.journal(), page, sink, line)
 }
 
-/// Prints the line that stands behind the events.
+/// Prints the line that stands after the events.
 fn print_end<K: Sink>(page: &mut Page, sink: &mut K, line: &mut Text) -> Result<(), PutFailed>
     requires ready { IsReady line.old }
     ensures paged { Paged (K.faults sink.old) (K.faults sink.new) (K.taken sink.old) (K.taken sink.new) page.old page.new (line_bytes (codes "end" ∷ [])) result }

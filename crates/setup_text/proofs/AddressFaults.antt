@@ -43,7 +43,7 @@ abbrev two_by : ℕ → ℕ → Result (Unit {0}) SetupKind → Result (ℕ × �
 two_by a b x = x >>= λ _. Ok (a, b)
 
 module _ (s : SetupText) (h : StandsSoFar s) (rest : List Place) (line : ℕ) where
-  -- words behind a whole line
+  -- words after a whole line
   over : (front us : Words) (k : SetupKind) → Begins s front → FreeHere s front → ((t : Words) (others : List Words) → Follows s (front ++ t) others → t ≡ []) → unfit_word front ≡ UnknownWord → line_ends us ≡ Err k → Faulty s line (front ++ us) rest k
   over front [] k begins free expects unknown e = absurd cc
   over front (w ∷ us) k begins free expects unknown e =

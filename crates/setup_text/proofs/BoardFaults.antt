@@ -171,7 +171,7 @@ begins_table_word s p n h low a b = begins_board s (made p n (codes "a") Plain F
 pub begins_behind : (s : SetupText) (p n : ℕ) (t : List ℕ) (shape : Shape) (choose : Choose) (ws more : Words) → StandsSoFar s → p < 2 ^ 32 → 1 ≤ n → n ≤ 255 → is_name t ≡ true → ShapeFits shape → ChooseFits choose → shape_words shape ++ codes "choose" ∷ choose_words choose ≡ ws ++ more → Begins s (b6 p n t ws)
 begins_behind s p n t shape choose ws more h low a b is fs fc e = begins_board s (made p n t shape choose) (b6 p n t ws) more h (fits_made p n t shape choose low a b is fs fc) refl (ap (λ (x : Words). b6 p n t x) e)
 
--- ---- what can stand behind them
+-- ---- what can stand after them
 
 pub expects_place : (s : SetupText) (t : Words) (others : List Words) → Follows s (b1 ++ t) others → NumberTail 0 4294967295 t
 expects_place s t others f = let b = only_board s t others f in let fits = b.1 in let low = fits.place in let e = b.2 in (b.0.place, drop 2 (board_row b.0), ap (λ (x : Words). drop 1 x) e, omega arith, omega arith)
@@ -188,7 +188,7 @@ expects_table_word s p n t others f = let b = only_board s (decimal p ∷ codes 
 pub expects_name : (s : SetupText) (p n : ℕ) (t : Words) (others : List Words) → Follows s (b5 p n ++ t) others → NameTail t
 expects_name s p n t others f = let b = only_board s (decimal p ∷ codes "number" ∷ decimal n ∷ codes "table" ∷ t) others f in let fits = b.1 in let e = b.2 in (b.0.table, drop 6 (board_row b.0), ap (λ (x : Words). drop 5 x) e, fits.table)
 
--- the rest of a board line behind the name of its table
+-- the rest of a board line after the name of its table
 abbrev pub RestTail : Words → Type 0
 RestTail t = (shape : Shape) × (choose : Choose) × ShapeFits shape × ChooseFits choose × (t ≡ shape_words shape ++ codes "choose" ∷ choose_words choose)
 
@@ -210,7 +210,7 @@ pub ways_tail : (a : ℕ) (t : Words) → RestTail (codes "cached" ∷ decimal a
 ways_tail a t (Plain, c, fs, fc, e) = absurd (no_row (codes "cached") e refl refl)
 ways_tail a t (Cached m n, c, fs, fc, e) = (n, codes "choose" ∷ choose_words c, ap (λ (x : Words). drop 2 x) e, fs.2, fs.3)
 
--- behind the cache of a board
+-- after the cache of a board
 abbrev pub ChoiceTail : Words → Type 0
 ChoiceTail t = (choose : Choose) × ChooseFits choose × (t ≡ codes "choose" ∷ choose_words choose)
 

@@ -78,7 +78,7 @@ module _ (s : SetupText) (h : StandsSoFar s) (rest : List Place) (line : ℕ) wh
             subst (λ (x : Words). Faulty s line (b1 ++ x) rest k) (sym f.words) (table_stops s h rest line few (length (boards_of s) + 1) refl n us k f.low f.high f.new e)
         go (Err j) r e = let same : j ≡ k = cc in front_stops ws k (r ∙ ap (λ (x : SetupKind). Err x) same)
 
-  -- A board line that was refused, behind its first word.
+  -- A board line that was refused, after its first word.
   pub board_stops : (ws : Words) (k : SetupKind) → board_added (setup_of s) ws ≡ Err k → Faulty s line (b1 ++ ws) rest k
   board_stops ws k e = room (ltb (length (boards_of s)) 16) refl e
     where
@@ -97,7 +97,7 @@ module _ (s : SetupText) (h : StandsSoFar s) (rest : List Place) (line : ℕ) wh
       room true r e = inner (ltb-true (length (boards_of s)) 16 r) (board_line (setup_of s) ws) refl e
       room false r e = full (ltb-false (length (boards_of s)) 16 r) cc
 
-  -- A board line that was read, behind its first word.
+  -- A board line that was read, after its first word.
   pub board_passes : (ws : Words) (m : Mode) → board_added (setup_of s) ws ≡ Ok m → FreeHere s (b1 ++ ws)
   unfolding board_line
   board_passes ws m e = room (ltb (length (boards_of s)) 16) refl e

@@ -135,7 +135,7 @@ board_free s p n name found shape First h f fits is = free_chosen s p n name fou
 board_free s p n name found shape Round h f fits is = free_chosen s p n name found shape (codes "round") h f fits is
 board_free s p n name found shape (Seed m) h f fits is = free_seed s p n name found shape (decimal m) h f fits is
 
--- ---- what is unknown behind the cache of a board
+-- ---- what is unknown after the cache of a board
 
 unknown_shape : (p n : ℕ) (name : List ℕ) (shape : Shape) → unfit_word (b6 p n name (shape_words shape)) ≡ UnknownWord
 unknown_shape p n name Plain = refl
@@ -335,7 +335,7 @@ module _ (s : SetupText) (h : StandsSoFar s) (rest : List Place) (line : ℕ) wh
             nothing (inl (u, e)) = let same : w ≡ codes "plain" = cc in differ same ea
             nothing (inr (u, e)) = let same : w ≡ codes "cached" = cc in differ same eb
 
-    -- the cache, and what stands behind it
+    -- the cache, and what stands after it
     behind_name : (table : ℕ) (ws : Words) (k : SetupKind) → shaped_by n table (shape_at found.1 ws) ≡ Err k → Stops (b6 p n name ws) k
     behind_name table ws k e = go (shape_at found.1 ws) refl e
       where

@@ -53,7 +53,7 @@ peel_tables (t ∷ ts) (u ∷ us) X Y fits none e =
     let rest : map cell_words t.cells ++ (end_row ∷ (tables_rows ts ++ X)) ≡ map cell_words u.cells ++ (end_row ∷ (tables_rows us ++ Y)) = cc in
     peel_tables ts us X Y fits.1 none (peel_cells t.cells u.cells (tables_rows ts ++ X) (tables_rows us ++ Y) rest)
 
--- what can stand in a table behind some of its cell lines
+-- what can stand in a table after some of its cell lines
 pub data InTable (l : Words) : Type 0 where
   cell : (c : CellLine) → HasAlternative c → l ≡ cell_words c → InTable l
   closes : l ≡ end_row → InTable l
@@ -95,7 +95,7 @@ abbrev boards_rows : List BoardText → List Words
 boards_rows [] = []
 boards_rows (b ∷ bs) = board_rows b ++ boards_rows bs
 
--- the accesses of a board, and what stands behind them
+-- the accesses of a board, and what stands after them
 peel_accesses : (ps cs : List Access) (bs ds : List BoardText) (l : Words) (others : List Words) → AllByRecursion AccessFits cs → map access_row ps ++ (boards_rows bs ++ (l ∷ others)) ≡ map access_row cs ++ (boards_rows ds ++ (end_row ∷ []))
     → (boards_rows bs ++ (l ∷ others) ≡ boards_rows ds ++ (end_row ∷ [])) ⊎ ((a : Access) × AccessFits a × (l ≡ access_row a))
 peel_accesses [] [] bs ds l others fits e = inl e
@@ -143,7 +143,7 @@ no_word_tables : (us : List TableText) (ds : List BoardText) → NoWordRow (tabl
 no_word_tables [] ds w rest e = no_word_boards ds w rest e
 no_word_tables (u ∷ us) ds w rest e = cc
 
--- the lines of a setup with what stands behind them
+-- the lines of a setup with what stands after them
 rows_open : (s : SetupText) (X : List Words) → open_rows s ++ X ≡ memory_row s.lines ∷ (map word_row s.words ++ (tables_rows s.tables ++ (boards_rows s.boards ++ X)))
 rows_open s X =
     ap (λ (v : List Words). memory_row s.lines ∷ v) (append_assoc (map word_row s.words) (tables_rows s.tables ++ boards_rows s.boards) X ∙ ap (λ (v : List Words). map word_row s.words ++ v) (append_assoc (tables_rows s.tables) (boards_rows s.boards) X))
@@ -159,7 +159,7 @@ behind s r X fits e =
     let p = peel_words s.words r.words (tables_rows s.tables ++ (boards_rows s.boards ++ X)) (tables_rows r.tables ++ (boards_rows r.boards ++ (end_row ∷ []))) fits.words (no_word_tables r.tables r.boards) rest in
     (p.0, r.tables, r.boards, p.1, fits.tables, fits.boards, p.2)
 
--- a line behind the lines of a setup
+-- a line after the lines of a setup
 pub follows : (s r : SetupText) (l : Words) (others : List Words) → SetupFits r → setup_rows r ≡ open_rows s ++ l ∷ others → Follows s l others
 follows s r l others fits e = words (behind s r (l ∷ others) fits e)
   where
@@ -180,7 +180,7 @@ follows s r l others fits e = words (behind s r (l ∷ others) fits e)
     words : Behind s (l ∷ others) → Follows s l others
     words (vs, us, ds, fv, fu, fd, e) = no_words vs us ds fv fu fd s.tables s.boards refl refl e
 
--- a line behind the lines of an open table
+-- a line after the lines of an open table
 pub follows_open : (s r : SetupText) (t : TableText) (l : Words) (others : List Words) → s.boards ≡ [] → SetupFits r → setup_rows r ≡ (open_rows s ++ open_table_rows t) ++ l ∷ others → InTable l
 follows_open s r t l others none fits e = go (behind s r (open_table_rows t ++ l ∷ others) fits (e ∙ append_assoc (open_rows s) (open_table_rows t) (l ∷ others)))
   where

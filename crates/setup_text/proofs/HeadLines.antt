@@ -119,7 +119,7 @@ module _ {T : Type 0} (g : Grammar T SetupKind) (lines : T → List Words) (spel
       stops_in_line g lines (text_end ∷ []) closed spelled J judged breaks done n (codes "table" ∷ w ∷ l) rest (codes "table" ∷ []) (Some w) l k refl (begins (codes "a") (codes "table" ∷ []) (codes "a" ∷ []) a_name refl) (free_word few)
       (judged_fault g lines (text_end ∷ []) closed spelled J judged breaks done (codes "table" ∷ []) w k (begins w (codes "table" ∷ w ∷ []) [] is refl) (name_breaking w k (found_contains w tables p found, sym same)))
 
-  -- a word behind the name
+  -- a word after the name
   left_over : (n : ℕ) (name w : List ℕ) (l : Words) (rest : List Place) (k : SetupKind) → length tables < 16 → is_name name ≡ true → found_name (map named tables) name ≡ None → UnknownWord ≡ k → FaultBehind g done (line_places n (codes "table" ∷ name ∷ w ∷ l) rest) n k
   left_over n name w l rest k few is new same =
       stops_in_line g lines (text_end ∷ []) closed spelled J judged breaks done n (codes "table" ∷ name ∷ w ∷ l) rest (head_row name) (Some w) l k refl (begins name (head_row name) [] is refl) (head_free name few new)
@@ -128,7 +128,7 @@ module _ {T : Type 0} (g : Grammar T SetupKind) (lines : T → List Words) (spel
       none : NoLine g lines done (head_row name) (Some w)
       none r more others fits e = let h = head_only r (name ∷ w ∷ more) others fits e in let both : name ∷ w ∷ more ≡ h.0 ∷ [] = h.2 in cc
 
-  -- Where a head line is refused, behind the word `table`.
+  -- Where a head line is refused, after the word `table`.
   pub head_stops : (n : ℕ) (l : Words) (rest : List Place) (k : SetupKind) → head_line tables l ≡ Err k → FaultBehind g done (line_places n (codes "table" ∷ l) rest) n k
   unfolding head_name
   head_stops n l rest k e = room (ltb (length tables) 16) refl e

@@ -1,4 +1,4 @@
--- Faults of a line behind the lines of a setup.
+-- Faults of a line after the lines of a setup.
 use Rattle.std.proofs.Common.{◌≡◌, ℕ, ◌<◌, ◌≤◌, ◌^◌, ◌⊎◌, inl, inr, Bool, true, false, cond, eqb, List, [], ◌∷◌, ◌++◌, map, length, drop, Option, Some, None, Result, Ok, Err, refl, sym, ap, subst, ◌∙◌, arith}
 use Rattle.std.specs.Prelude.{codes, decimal}
 use Rattle.std.specs.Str.{bytes_eq}
@@ -266,7 +266,7 @@ name_refused (w ∷ ws) k e = go (is_name w) refl e
             let name : is_name w ≡ true = ap is_name same ∙ is in
             (let both : true ≡ false = sym name ∙ h in cc)
 
--- a refused word behind a front, where only these tails can stand
+-- a refused word after a front, where only these tails can stand
 pub refused_at : (s : SetupText) (n : ℕ) (l : Words) (rest : List Place) (front ws : Words) (E : Words → Type 0) (k kind : SetupKind) → StandsSoFar s → l ≡ front ++ ws → Begins s front → FreeHere s front → Refused E ws k kind
     → ((t : Words) (others : List Words) → Follows s (front ++ t) others → E t) → unfit_word front ≡ kind → unfit_end front ≡ kind → Faulty s n l rest k
 refused_at s n l rest front ws E k kind h parts begins free r expects at_word at_end =

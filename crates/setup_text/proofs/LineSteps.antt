@@ -32,7 +32,7 @@ unfolding lines_at
 setup_none m n ws [] end h = refl
 setup_none m n ws (l ∷ ls) end h = absurd cc
 
--- a line that was read leads on to the lines behind it
+-- a line that was read leads on to the lines after it
 pub line_goes : {X M R : Type 0} (lines : M → List Line → ℕ → Result R Fault) (mode : X → M) (r : Result X SetupFault) (u v : Unread) (read : Result M SetupKind) → Gives mode r u.line read → StaysOnLine u v → GoesOn lines mode r v (then_lines lines u read)
 line_goes lines mode (Ok x) u v read given stays = rw (given, stays.lines, stays.end) refl
 line_goes lines mode (Err faults.NoMemory) u v read given stays = tt
@@ -130,7 +130,7 @@ book_table tables u = table_goes book_lines (λ t. BookMode.within tables t) (λ
     one t l ls end (Ok (true, c)) = refl
     one t l ls end (Ok (false, c)) = refl
 
--- a table that was read leads on to the lines behind it
+-- a table that was read leads on to the lines after it
 pub table_read : {M R : Type 0} (lines : M → List Line → ℕ → Result R Fault) (whole : Table → M) (t : Table) (v : Unread) (read : Result R Fault) (x : Result (Table × Unread) Fault) → read ≡ (x >>= λ r. lines (whole r.0) r.1.lines r.1.end) → x ≡ Ok (t, v) → read ≡ lines (whole t) v.lines v.end
 table_read lines whole t v read x e h = e ∙ rw h refl
 
@@ -157,7 +157,7 @@ book_begun tables u v e stays = rw (e, stays.line, stays.lines, stays.end) refl
 pub setup_begins : (n : ℕ) (ws : Words) (ls : List Line) (end : ℕ) (v : Unread) → has_line ls ≡ true → v ≡ at_next_line (at n ws ls end) → lines_at start ls end ≡ then_lines lines_at v (first_line v.words)
 setup_begins n ws ls end v h e = setup_step start n ws ls end v h e
 
--- a line behind the `end` line
+-- a line after the `end` line
 pub ended_more : (setup : Setup) (n : ℕ) (ws : Words) (ls : List Line) (end : ℕ) (v : Unread) → has_line ls ≡ true → v ≡ at_next_line (at n ws ls end) → lines_at (ended setup) ls end ≡ Err (record { line = v.line; kind = UnknownWord })
 ended_more setup n ws ls end v h e = setup_step (ended setup) n ws ls end v h e
 

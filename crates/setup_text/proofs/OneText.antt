@@ -100,13 +100,13 @@ one_value s r hs hr e =
     let both : ◌≡◌ {A = Result Mode SetupKind} (Ok (body (setup_of s))) (Ok (body (setup_of r))) = sym (so_far_runs s hs) ∙ (ap (λ (x : List Words). rows_at start x) e ∙ so_far_runs r hr) in
     cc
 
--- what a side condition behind the lines of a setup says of that setup
+-- what a side condition after the lines of a setup says of that setup
 pub breaks_body : (s : SetupText) (words : Words) (here : List ℕ) (k : SetupKind) → StandsSoFar s → BreaksSetup (open_rows s) words here k → JudgedAs (slot_of words) (setup_of s) words here k
 breaks_body s words here k h (inl (e, ws, j)) = absurd cc
 breaks_body s words here k h (inr (inl (r, hr, e, j))) = subst (λ (x : Setup). JudgedAs (slot_of words) x words here k) (sym (one_value s r h hr e)) j
 breaks_body s words here k h (inr (inr (r, hr, j))) = absurd (not_open s r j.open_table h hr j.parts)
 
--- what a side condition behind the lines of an open table says of that table
+-- what a side condition after the lines of an open table says of that table
 pub breaks_open : (s : SetupText) (t : TableText) (words : Words) (here : List ℕ) (k : SetupKind) → StandsSoFar s → BreaksSetup (open_rows s ++ open_table_rows t) words here k → (tk : TableKind) × BreaksCell (map cell_words t.cells) words here tk × (k ≡ kind_of tk)
 breaks_open s t words here k h (inl (e, ws, j)) = absurd cc
 breaks_open s t words here k h (inr (inl (r, hr, e, j))) = absurd (not_open r s t hr h (sym e))

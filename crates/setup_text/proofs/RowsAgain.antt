@@ -36,7 +36,7 @@ use Rattle.setup_text.proofs.TableLines.{entered_name}
 use Rattle.setup_text.proofs.WrittenWords.{each}
 use Rattle.setup_text.proofs.LinesAgain.{IsFramed, lines_read, word_read, access_read, end_read, head_read, board_read}
 
--- where reading line after line stands behind these lines
+-- where reading line after line stands after these lines
 abbrev pub read_rows : {M : Type 0} → (M → Words → Result M SetupKind) → M → List Words → Result M SetupKind
 read_rows step m [] = Ok m
 read_rows step m (l ∷ ls) = step m l >>= λ next. read_rows step next ls

@@ -205,7 +205,7 @@ module _ (boards : ℕ) (some : 1 ≤ boards) (few : boards ≤ 16) where
   rows_push : (done : List (List ℕ)) (places : List ℕ) → rows_of (done ++ places ∷ []) ≡ rows_of done ++ map decimal places ∷ []
   rows_push done places = map-append (λ (places : List ℕ). map decimal places) done (places ∷ [])
 
-  -- a line of a schedule behind others
+  -- a line of a schedule after others
   row_at : (done : List Words) (lines : List (List ℕ)) (l : Words) (others : List Words) → ScheduleFits boards lines → rows_of lines ≡ done ++ l ∷ others → (places : List ℕ) × AllByRecursion (IsPlace boards) places × (l ≡ map decimal places)
   row_at done [] l others fit e = absurd (nothing done e)
     where

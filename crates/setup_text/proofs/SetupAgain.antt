@@ -188,7 +188,7 @@ name_new w (t ∷ ts) h = go (bytes_eq w t.name) refl (name_new w ts (λ k d low
     go true e rest = absurd (h 0 t (omega arith) (sym ((bytes_eq-Decides w t.name).0 e)))
     go false e rest = rw (e, rest) refl
 
--- one of the tables that stand, behind those before it
+-- one of the tables that stand, after those before it
 pub one_stands : (ts more : List Table) (t : TableText) → AreTables (ts ++ table_of t.name t.cells ∷ more) → TableFits t → CellsStand t → TableStands ts t
 one_stands ts more t are fits cells =
     let whole = table_of t.name t.cells in

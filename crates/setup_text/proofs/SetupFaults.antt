@@ -230,7 +230,7 @@ with_none P s none p = subst (λ (x : List BoardText). P (text s.lines s.words s
 open_none : (s : SetupText) (t : TableText) → OpenStands s t → OpenStands (text s.lines s.words s.tables []) t
 open_none s t h = subst (λ (x : List BoardText). OpenStands (text s.lines s.words s.tables x) t) h.boards h
 
--- ---- behind a whole setup
+-- ---- after a whole setup
 
 behind_end : (s : SetupText) (line : ℕ) (l : Words) (rest : List Place) → FaultBehind setup_grammar (setup_rows s) (line_places line l rest) line UnknownWord
 behind_end s line [] rest = record {

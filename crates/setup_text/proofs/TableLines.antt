@@ -19,7 +19,7 @@ entered_name t (answer s e alts ∷ cells) = entered_name (entered t (answer s e
 pub is_named : (name : List ℕ) (u left : Unread) (t : Table) → IsTable name u t left → t.name ≡ name
 is_named name u left t h = ap (λ (x : Table). x.name) h.value ∙ entered_name (empty_table name) h.cells
 
--- what is left behind a table is no longer than what was there
+-- what is left after a table is no longer than what was there
 pub lines_shorter : (t : Table) (ls : List Line) (end : ℕ) (r : Table × Unread) → table_lines t ls end ≡ Ok r → length r.1.lines ≤ length ls
 unfolding table_lines
 lines_shorter t [] end r e = absurd cc

@@ -35,7 +35,7 @@ board_written old b =
 
 -- ---- more lines
 
--- more lines behind those that were written
+-- more lines after those that were written
 pub rows_more : (old x y : List ℕ) (a b : List Words) → x ≡ old ++ lines_bytes a → y ≡ x ++ lines_bytes b → y ≡ old ++ lines_bytes (a ++ b)
 rows_more old x y a b e h = h ∙ (ap (λ (v : List ℕ). v ++ lines_bytes b) e ∙ (append_assoc old (lines_bytes a) (lines_bytes b) ∙ ap (λ (v : List ℕ). old ++ v) (sym (lines_bytes_append a b))))
 

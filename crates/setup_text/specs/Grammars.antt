@@ -20,7 +20,7 @@ use Rattle.setup_text.specs.Spelling.{TableText, SetupText, TableFits, open_tabl
 use Rattle.setup_text.specs.Standing.{StandsSoFar, TablesStand}
 use Rattle.setup_text.specs.Values.{tables_of, names_of, setup_of}
 
--- ---- what stands behind the words of a line
+-- ---- what stands after the words of a line
 
 -- What a word of a line is: its first word, or what stands there by the form of the line.
 pub data Slot : Type 0 where
@@ -71,7 +71,7 @@ cached_front = board_front ++ the (codes "cached") ∷ []
 abbrev pub seed_front : Front
 seed_front = the (codes "choose") ∷ the (codes "seed") ∷ []
 
--- The fronts of lines, and what stands behind each.
+-- The fronts of lines, and what stands after each.
 abbrev pub fronts : List (Front × Slot)
 fronts =
     ([], first)
@@ -98,7 +98,7 @@ abbrev pub slot_among : List (Front × Slot) → Words → Slot
 slot_among [] ws = other
 slot_among (f ∷ fs) ws = if has_front f.0 ws then f.1 else slot_among fs ws
 
--- What stands behind these words of a line.
+-- What stands after these words of a line.
 abbrev pub slot_of : Words → Slot
 slot_of ws = slot_among fronts ws
 
@@ -114,7 +114,7 @@ wants_number ways = true
 wants_number seed = true
 wants_number s = false
 
--- ---- the side conditions, each at the word where it is judged, behind the words of its line and a setup that was read so far
+-- ---- the side conditions, each at the word where it is judged, after the words of its line and a setup that was read so far
 
 abbrev pub IsAccessWord : List ℕ → Type 0
 IsAccessWord w = (event : LocalEvent) × (w ≡ local_event_word event)
@@ -156,7 +156,7 @@ last_word [] = []
 last_word (w ∷ []) = w
 last_word (v ∷ w ∷ ws) = last_word (w ∷ ws)
 
--- The word `plain` behind the name of a table that reaches a state other than I.
+-- The word `plain` after the name of a table that reaches a state other than I.
 abbrev pub JudgedShape : Setup → Words → List ℕ → SetupKind → Type 0
 JudgedShape setup words w kind =
     (w ≡ codes "plain") × (t : Table) × (s : State) × Contains setup.tables t × (t.name ≡ last_word words) × Reached t s × (s ≢ I) × (kind ≡ NoFrames)
@@ -188,7 +188,7 @@ kind_of table_kinds.NoCell = NoCell
 kind_of (table_kinds.Alternatives count) = Limit Alternatives count
 kind_of table_kinds.NoEnd = NoEnd
 
--- Behind whole lines, a side condition of a table that is open fails at a word of one of its lines.
+-- After whole lines, a side condition of a table that is open fails at a word of one of its lines.
 pub record JudgedInTable (front earlier : List Words) (words : Words) (here : List ℕ) (kind : SetupKind) : Type 0 where
   pub open_table : TableText
   pub fits : TableFits open_table
@@ -197,7 +197,7 @@ pub record JudgedInTable (front earlier : List Words) (words : Words) (here : Li
   pub breaks : BreaksCell (map cell_words open_table.cells) words here table_kind
   pub kind_is : kind ≡ kind_of table_kind
 
--- A side condition fails at a word of a setup: on the first line, behind the lines of a setup that stands so far, or in a table behind them.
+-- A side condition fails at a word of a setup: on the first line, after the lines of a setup that stands so far, or in a table after them.
 abbrev pub BreaksSetup : List Words → Words → List ℕ → SetupKind → Type 0
 BreaksSetup earlier words here kind =
     ((earlier ≡ []) × (words ≡ codes "memory" ∷ []) × JudgedLines here kind)
@@ -210,7 +210,7 @@ JudgedHead first tables w kind = JudgedTableWord tables w kind
 JudgedHead name tables w kind = JudgedName tables w kind
 JudgedHead s tables w kind = ⊥
 
--- A side condition fails at a word of a text of tables: behind whole tables that stand, or in one behind them.
+-- A side condition fails at a word of a text of tables: after whole tables that stand, or in one after them.
 abbrev pub BreaksBook : List Words → Words → List ℕ → SetupKind → Type 0
 BreaksBook earlier words here kind =
     ((tables : List TableText) × TablesStand tables × (earlier ≡ tables_rows tables) × JudgedHead (slot_of words) (tables_of tables) here kind)

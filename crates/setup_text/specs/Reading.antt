@@ -77,7 +77,7 @@ name_at (w ∷ ws) = if is_name w then Ok (w, ws) else Err UnknownWord
 abbrev pub in_lines : ℕ → Result ℕ SetupKind
 in_lines n = if nat_eq n 0 || nat_lt 4096 n then Err (Limit Lines n) else Ok n
 
--- How many lines memory has, behind the word `memory`.
+-- How many lines memory has, after the word `memory`.
 unfoldable pub memory_line : Words → Result ℕ SetupKind
 memory_line ws = number_at 4294967295 ws >>= λ n. in_lines n.0 >>= λ lines. line_ends n.1 >>= λ _. Ok lines
 
@@ -88,7 +88,7 @@ in_memory bound addr = if nat_lt addr bound then Ok addr else Err Address
 unfoldable pub address_at : ℕ → Words → Result (ℕ × Words) SetupKind
 address_at bound ws = number_at 4294967295 ws >>= λ n. in_memory bound n.0 >>= λ addr. Ok (addr, n.1)
 
--- A line of one address, and a line of an address and a value, behind their first word.
+-- A line of one address, and a line of an address and a value, after their first word.
 unfoldable pub address_line : ℕ → Words → Result ℕ SetupKind
 address_line bound ws = address_at bound ws >>= λ a. line_ends a.1 >>= λ _. Ok a.0
 
@@ -122,7 +122,7 @@ shape_at plain (w ∷ ws) =
     if bytes_eq w (codes "plain") then (if plain then Ok (Plain, ws) else Err NoFrames) else
     (if bytes_eq w (codes "cached") then frames_at ws else Err UnknownWord)
 
--- The place behind so many boards.
+-- The place after so many boards.
 abbrev pub next_place : ℕ → ℕ × Words → Result Words SetupKind
 next_place boards n = if nat_eq n.0 (boards + 1) then Ok n.1 else Err Number
 
@@ -148,7 +148,7 @@ known_name (Some p) ws = Ok (p.0, p.1, ws)
 unfoldable pub table_name_at : List Table → Words → Result (ℕ × Bool × Words) SetupKind
 table_name_at tables ws = name_at ws >>= λ n. known_name (found_name (map named tables) n.0) n.1
 
--- A board line behind its first word, up to its number; to its table; and to its end.
+-- A board line after its first word, up to its number; to its table; and to its end.
 unfoldable pub board_front : List BoardSpec → Words → Result (ℕ × Words) SetupKind
 board_front boards ws =
     place_at (length boards) ws >>= λ number. this_word (codes "number") number >>= board_number_at boards
@@ -193,11 +193,11 @@ access_line bound event ws = access_parts bound event ws >>= λ a. Ok (access_of
 pub data Mode : Type 0 where
   -- before the first line
   start : Mode
-  -- behind the lines of a setup
+  -- after the lines of a setup
   body : Setup → Mode
-  -- in a table behind them
+  -- in a table after them
   in_table : Setup → Table → Mode
-  -- behind the `end` line
+  -- after the `end` line
   ended : Setup → Mode
 
 -- ---- the lines of a setup by their first words
@@ -216,7 +216,7 @@ new_name tables n = fresh (found_name (map named tables) n.0)
     fresh None = Ok n
     fresh (Some p) = Err TwiceName
 
--- The name of one more table, behind the word `table`.
+-- The name of one more table, after the word `table`.
 unfoldable pub head_name : List Table → Words → Result (List ℕ × Words) SetupKind
 head_name tables ws =
     if nat_lt (length tables) 16 then (name_at ws >>= new_name tables) else Err (Limit Tables 17)
@@ -246,7 +246,7 @@ abbrev pub maybe_access : Setup → Option LocalEvent → Words → Result Mode 
 maybe_access setup None ws = Err UnknownWord
 maybe_access setup (Some event) ws = access_read setup event ws
 
--- A line behind those of a setup.
+-- A line after those of a setup.
 unfoldable pub body_line : Setup → Words → Result Mode SetupKind
 body_line setup [] = Err UnknownWord
 body_line setup (w ∷ ws) =
@@ -284,7 +284,7 @@ abbrev pub on_line : {X : Type 0} → ℕ → Result X SetupKind → Result X Fa
 on_line line (Ok x) = Ok x
 on_line line (Err kind) = Err (record { line = line; kind = kind })
 
--- The text ends: it may do so behind its `end` line.
+-- The text ends: it may do so after its `end` line.
 abbrev pub text_ends : Mode → ℕ → Result Setup Fault
 text_ends (ended setup) end = Ok setup
 text_ends m end = Err (record { line = end; kind = NoEnd })
@@ -293,7 +293,7 @@ unfoldable pub lines_at : Mode → List Line → ℕ → Result Setup Fault
 lines_at m [] end = text_ends m end
 lines_at m (l ∷ ls) end = on_line l.number (line_at m l.words) >>= λ next. lines_at next ls end
 
--- What a table behind the word `table` of its head line gives, and what is then left.
+-- What a table after the word `table` of its head line gives, and what is then left.
 abbrev pub as_setup_fault : {X : Type 0} → Result X TableReading.Fault → Result X Fault
 as_setup_fault (Ok x) = Ok x
 as_setup_fault (Err f) = Err (record { line = f.line; kind = kind_of f.kind })
@@ -308,7 +308,7 @@ setup_at u = lines_at start u.lines u.end
 
 -- ---- texts of tables
 
--- Where reading a text of tables stands: behind whole tables, or in one.
+-- Where reading a text of tables stands: after whole tables, or in one.
 pub data BookMode : Type 0 where
   whole : List Table → BookMode
   within : List Table → Table → BookMode
@@ -323,7 +323,7 @@ abbrev pub book_line : BookMode → Words → Result BookMode SetupKind
 book_line (whole tables) ws = book_head tables ws
 book_line (within tables table) ws = as_setup_kind (table_line table ws) >>= λ t. Ok (after_book_line tables t)
 
--- The text ends: it may do so behind a whole table.
+-- The text ends: it may do so after a whole table.
 abbrev pub book_ends : BookMode → ℕ → Result (List Table) Fault
 book_ends (whole []) end = Err (record { line = end; kind = NoEnd })
 book_ends (whole (t ∷ tables)) end = Ok (t ∷ tables)
@@ -347,7 +347,7 @@ place_within (Err kind) = Err Number
 abbrev pub place_in : ℕ → List ℕ → Result ℕ SetupKind
 place_in boards w = place_within (number_within boards (number_of w))
 
--- The places on the rest of a line, behind others.
+-- The places on the rest of a line, after others.
 unfoldable pub places_on : ℕ → List ℕ → Words → Result (List ℕ) SetupKind
 places_on boards turns [] = Ok turns
 places_on boards turns (w ∷ ws) = place_in boards w >>= λ p. places_on boards (turns ++ p ∷ []) ws
@@ -376,12 +376,12 @@ abbrev pub GoesOn : {X M R : Type 0} → (M → List Line → ℕ → Result R F
 GoesOn lines mode (Ok x) left read = read ≡ lines (mode x) left.lines left.end
 GoesOn lines mode (Err e) left read = FailsAs e read
 
--- The mode behind a line of a setup, which may be its last.
+-- The mode after a line of a setup, which may be its last.
 abbrev pub mode_after : Setup → Bool → Mode
 mode_after setup true = ended setup
 mode_after setup false = body setup
 
--- What a line that was begun and the lines behind it give.
+-- What a line that was begun and the lines after it give.
 abbrev pub then_lines : {M R : Type 0} → (M → List Line → ℕ → Result R Fault) → Unread → Result M SetupKind → Result R Fault
 then_lines lines u read = on_line u.line read >>= λ next. lines next u.lines u.end
 

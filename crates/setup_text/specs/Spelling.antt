@@ -18,7 +18,7 @@ pub record TableText : Type 0 where
   pub name : List ℕ
   pub cells : List CellLine
 
--- A board line, and the accesses behind it.
+-- A board line, and the accesses after it.
 pub record BoardText : Type 0 where
   pub place : ℕ
   pub number : ℕ

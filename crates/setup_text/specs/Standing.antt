@@ -8,7 +8,7 @@ use Rattle.setup_text.specs.Spelling.{TableText, BoardText, SetupText, SetupFits
 use Rattle.setup_text.specs.Values.{tables_of, setup_of}
 use Rattle.setup_text.specs.Drafts.{AreTables, IsDraft}
 
--- The cell lines of a table can stand behind one another.
+-- The cell lines of a table can stand after one another.
 abbrev pub CellsStand : TableText → Type 0
 CellsStand t = AllStand (empty_table t.name) t.cells
 

@@ -65,7 +65,7 @@ pub record IsWholeSetup (s : Setup) : Type 0 where
   pub chooses : AllByRecursion (λ (b : BoardSpec). ChooseFits b.choose) s.boards
   pub scripts : AllByRecursion (AllByRecursion AccessFits) s.scripts
 
--- The lines with words of bytes that follow a written setup, numbered as they stand behind it.
+-- The lines with words of bytes that follow a written setup, numbered as they stand after it.
 abbrev pub lines_behind : Setup → List ℕ → List Line
 lines_behind s rest = numbered (length (setup_rows (text_of s)) + 1) (lines rest)
 

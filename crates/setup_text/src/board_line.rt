@@ -36,7 +36,7 @@ fn choose(scan: &mut Scan) -> Result<Choose, SetupFault>
     Err(bad(scan, SetupKind::UnknownWord))
 }
 
-/// Sets and ways, behind the word `cached`.
+/// Sets and ways, after the word `cached`.
 #[tactic(auto, unfolding(crate::specs::Reading::frames_at))]
 fn frames(scan: &mut Scan) -> Result<Shape, SetupFault>
     ensures value { Gives (λ s. (s, scan.new.words)) result scan.old.line (frames_at scan.old.words) }
@@ -77,7 +77,7 @@ fn shape(scan: &mut Scan, plain: bool) -> Result<Shape, SetupFault>
     Err(bad(scan, SetupKind::UnknownWord))
 }
 
-/// The place behind so many boards.
+/// The place after so many boards.
 #[tactic(auto, unfolding(crate::specs::Reading::place_at))]
 fn place(scan: &mut Scan, boards: u64) -> Result<(), SetupFault>
     requires { boards ≤ 16 }
@@ -114,7 +114,7 @@ fn board_number(scan: &mut Scan, boards: &[BoardSpec]) -> Result<u16, SetupFault
     Ok(number)
 }
 
-/// A board line behind its first word, up to its number.
+/// A board line after its first word, up to its number.
 #[tactic(auto, unfolding(crate::specs::Reading::board_front))]
 fn front(scan: &mut Scan, boards: &[BoardSpec]) -> Result<u16, SetupFault>
     requires { length boards.now ≤ 16 }
@@ -166,7 +166,7 @@ fn back(scan: &mut Scan) -> Result<Choose, SetupFault>
     Ok(choose)
 }
 
-/// A board line, behind its first word.
+/// A board line, after its first word.
 #[tactic(auto, unfolding(crate::specs::Reading::board_line))]
 pub fn board(scan: &mut Scan, draft: &Draft) -> Result<BoardSpec, SetupFault>
     ensures value { Gives (λ b. b) result scan.old.line (board_line draft.now scan.old.words) }

@@ -24,7 +24,7 @@ use fb_text::Scan;
 use setup::Setup;
 use std::alloc::Global;
 
-/// A `word` line, behind its first word.
+/// A `word` line, after its first word.
 fn word_line(scan: &mut Scan, draft: &mut Draft) -> Result<(), SetupFault>
     ensures value { Gives (λ _. Mode.body draft.new) result scan.old.line (word_line draft.old scan.old.words) }
     ensures stays { StaysOnLine scan.old scan.new }
@@ -37,7 +37,7 @@ fn word_line(scan: &mut Scan, draft: &mut Draft) -> Result<(), SetupFault>
     Ok(())
 }
 
-/// A table, behind its first word.
+/// A table, after its first word.
 fn table_lines(alloc: Global, scan: &mut Scan, draft: &mut Draft) -> Result<(), SetupFault>
     ensures exact { GoesOn lines_at (λ _. Mode.body draft.new) result scan.new (then_lines lines_at scan.old (table_head draft.old scan.old.words)) }
     ensures shorter { OnOk result (length scan.new.lines ≤ length scan.old.lines) }
@@ -50,7 +50,7 @@ fn table_lines(alloc: Global, scan: &mut Scan, draft: &mut Draft) -> Result<(), 
     Ok(())
 }
 
-/// A board line, behind its first word.
+/// A board line, after its first word.
 fn board_line(scan: &mut Scan, draft: &mut Draft) -> Result<(), SetupFault>
     ensures value { Gives (λ _. Mode.body draft.new) result scan.old.line (board_added draft.old scan.old.words) }
     ensures stays { StaysOnLine scan.old scan.new }
@@ -63,7 +63,7 @@ fn board_line(scan: &mut Scan, draft: &mut Draft) -> Result<(), SetupFault>
     Ok(())
 }
 
-/// An access, behind its first word.
+/// An access, after its first word.
 fn access_line(scan: &mut Scan, draft: &mut Draft, event: LocalEvent) -> Result<(), SetupFault>
     ensures value { Gives (λ _. Mode.body draft.new) result scan.old.line (access_read draft.old event scan.old.words) }
     ensures stays { StaysOnLine scan.old scan.new }
@@ -79,7 +79,7 @@ fn access_line(scan: &mut Scan, draft: &mut Draft, event: LocalEvent) -> Result<
     Ok(())
 }
 
-/// The `end` line, behind its first word.
+/// The `end` line, after its first word.
 fn end_line(scan: &mut Scan, draft: &Draft) -> Result<(), SetupFault>
     ensures value { Gives (λ _. Mode.ended draft.now) result scan.old.line (end_line draft.now scan.old.words) }
     ensures some { OnOk result (1 ≤ length draft.now.boards) }
@@ -91,7 +91,7 @@ fn end_line(scan: &mut Scan, draft: &Draft) -> Result<(), SetupFault>
     line_end(scan)
 }
 
-/// One line or one table, behind its first word, which is not `end`.
+/// One line or one table, after its first word, which is not `end`.
 #[tactic(auto, unfolding(crate::specs::Reading::body_line))]
 fn part(alloc: Global, scan: &mut Scan, draft: &mut Draft, word: &[u8]) -> Result<(), SetupFault>
     requires { bytes_eq word.now (codes "end") ≡ false }
@@ -185,7 +185,7 @@ pub fn read_setup(alloc: Global, bytes: &[u8]) -> Result<Setup, SetupFault>
     ensures spelled { IfOk result (IsSetup bytes.now) }
     // What is spelled so is read.
     ensures only { (s : SetupText) → SetupStands s → items (text_places bytes.now) ≡ setup_items s → IsReadAs (λ x. x) result (setup_of s) }
-    // A setup that was written is read again. Only a word behind it is at fault.
+    // A setup that was written is read again. Only a word after it is at fault.
     ensures written { (s : Setup) (rest : List ℕ) → IsWholeSetup s → bytes.now ≡ written_setup s ++ rest → IsReadBefore (lines_behind s rest) result s }
     // A fault is that of the first place at fault, with its line and its kind.
     ensures first { IfErr result (IsFirstFault setup_grammar bytes.now) }

@@ -48,7 +48,7 @@ fn new_name(scan: &mut Scan, tables: &Tables) -> Result<Name, SetupFault>
     Ok(name)
 }
 
-/// The rest of a table, behind its name.
+/// The rest of a table, after its name.
 fn rest(alloc: Global, scan: &mut Scan, name: Name) -> Result<Table, SetupFault>
     ensures exact { GivesTable result scan.new (as_setup_fault (table_at name scan.old)) }
     ensures shorter { OnOk result (length scan.new.lines ≤ length scan.old.lines) }
@@ -64,7 +64,7 @@ fn rest(alloc: Global, scan: &mut Scan, name: Name) -> Result<Table, SetupFault>
     }
 }
 
-/// One more table, behind the word `table`.
+/// One more table, after the word `table`.
 #[tactic(auto, unfolding(crate::specs::Reading::whole_table))]
 pub fn table(alloc: Global, scan: &mut Scan, tables: &Tables) -> Result<Table, SetupFault>
     ensures exact { GivesTable result scan.new (whole_table tables.now scan.old) }

@@ -93,7 +93,7 @@ pub fn name(scan: &mut Scan) -> Result<Name, SetupFault>
     }
 }
 
-/// The number of lines of memory, behind the word `memory`.
+/// The number of lines of memory, after the word `memory`.
 #[tactic(auto, unfolding(crate::specs::Reading::memory_line))]
 pub fn memory_lines(scan: &mut Scan) -> Result<u32, SetupFault>
     ensures value { Gives (λ n. n) result scan.old.line (memory_line scan.old.words) }
@@ -123,7 +123,7 @@ fn address(scan: &mut Scan, bound: u32) -> Result<u32, SetupFault>
     Ok(address as u32)
 }
 
-/// A line of one address, behind its first word.
+/// A line of one address, after its first word.
 #[tactic(auto, unfolding(crate::specs::Reading::address_line))]
 fn address_line(scan: &mut Scan, bound: u32) -> Result<u32, SetupFault>
     ensures value { Gives (λ a. a) result scan.old.line (address_line bound scan.old.words) }
@@ -135,7 +135,7 @@ fn address_line(scan: &mut Scan, bound: u32) -> Result<u32, SetupFault>
     Ok(address)
 }
 
-/// A line of an address and a value, behind its first word.
+/// A line of an address and a value, after its first word.
 #[tactic(auto, unfolding(crate::specs::Reading::value_line))]
 pub fn value_line(scan: &mut Scan, bound: u32) -> Result<(u32, u32), SetupFault>
     ensures value { Gives (λ p. p) result scan.old.line (value_line bound scan.old.words) }
@@ -148,7 +148,7 @@ pub fn value_line(scan: &mut Scan, bound: u32) -> Result<(u32, u32), SetupFault>
     Ok((address, value as u32))
 }
 
-/// An access, behind its first word.
+/// An access, after its first word.
 #[tactic(auto, unfolding(crate::specs::Reading::access_line))]
 pub fn access(scan: &mut Scan, bound: u32, event: LocalEvent) -> Result<Access, SetupFault>
     ensures value { Gives (λ a. a) result scan.old.line (access_line bound event scan.old.words) }

@@ -20,7 +20,7 @@ use setup::Setup;
 use table_check::{BoardSpec, Choose, Shape};
 use table_text::{append_table, table_room};
 
-/// A word behind a space.
+/// A word after a space.
 fn word(text: &mut Text, word: &[u8])
     requires { length word.now < text.old.spare }
     ensures bytes { text.new.bytes ≡ text.old.bytes ++ 32 ∷ word.now }
@@ -30,7 +30,7 @@ fn word(text: &mut Text, word: &[u8])
     text.push(word);
 }
 
-/// A number behind a space.
+/// A number after a space.
 fn number(text: &mut Text, value: u64)
     requires { 21 ≤ text.old.spare }
     ensures bytes { text.new.bytes ≡ text.old.bytes ++ 32 ∷ decimal value }
@@ -219,7 +219,7 @@ pub fn write_setup(setup: &Setup, text: &mut Text) -> Result<(), NoMemory>
     ensures whole { OnOk result (IsWholeSetup setup.now) }
     // The spelling is a text of this setup.
     ensures spelled { OnOk result (IsSetup (written_setup setup.now) setup.now) }
-    // Whatever follows the spelling, its lines stand in the text as they were written, and behind them what follows.
+    // Whatever follows the spelling, its lines stand in the text as they were written, and after them what follows.
     ensures goes_on { OnOk result ((rest : List ℕ) → items (text_places (written_setup setup.now ++ rest)) ≡ lines_items (setup_rows (text_of setup.now)) ++ places_behind setup.now rest) }
     ensures err { OnErr result (text.new ≡ text.old) }
 {

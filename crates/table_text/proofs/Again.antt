@@ -71,7 +71,7 @@ not_bar Ubw = refl
 not_bar Pas = refl
 not_bar Flu = refl
 
--- what is left behind an alternative
+-- what is left after an alternative
 abbrev pub left : Bool → Words → Words
 left true rest = rest
 left false rest = []

@@ -65,7 +65,7 @@ goes_on name u left r given t line end rest p named here = found r given
         let both : ◌≡◌ {A = Result (Table × Unread) Fault} (Err (record { line = at; kind = kind })) (Ok (t, behind_table line end t rest)) = sym given ∙ whole in
         absurd cc
 
--- what is left behind the head line of a text that begins with a written table
+-- what is left after the head line of a text that begins with a written table
 after_first : (t : Table) (rest : List ℕ) → IsWhole t → after_head (written_table t ++ rest) ≡ behind_head 1 (unread (written_table t ++ rest)).end t rest
 unfolding written_table
 after_first t rest p =

@@ -30,7 +30,7 @@ use Rattle.table_text.proofs.TailStops.{WhyTail, BeginsTail, after_event, tail_s
 abbrev pub BeginsCell : Words → Type 0
 BeginsCell front = (c : CellLine) × (more : Words) × HasAlternative c × (cell_words c ≡ front ++ more)
 
--- why a cell line is refused, behind these lines
+-- why a cell line is refused, after these lines
 abbrev pub WhyCell : List Words → Words → Option (List ℕ) → TableKind → Type 0
 WhyCell done front None kind = ((kind ≡ NoCell) × (s : List ℕ) × (a : List ℕ) × (front ≡ s ∷ a ∷ codes "=" ∷ [])) ⊎ ((kind ≡ UnknownWord) × ((p : Words) → front ≡ p ++ codes "=" ∷ [] → ⊥))
 WhyCell done front (Some w) kind =

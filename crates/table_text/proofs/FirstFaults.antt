@@ -53,7 +53,7 @@ not_end_line : (c : CellLine) → cell_words c ≡ end_row → ⊥
 not_end_line (local s e alts) h = absurd cc
 not_end_line (answer s e alts) h = absurd cc
 
--- the line behind these is a cell line or the `end` line
+-- the line after these is a cell line or the `end` line
 abbrev IsRow : Words → Type 0
 IsRow l = ((c : CellLine) × HasAlternative c × (cell_words c ≡ l)) ⊎ (end_row ≡ l)
 

@@ -36,7 +36,7 @@ stops t n ws [] end fault h e = absurd cc
 stops t n ws (l ∷ ls) end faults.NoMemory h e = tt
 stops t n ws (l ∷ ls) end (faults.Bad line kind) h e = rw (e.0, e.1) refl
 
--- behind the name
+-- after the name
 pub begins : (name : List ℕ) (u v : Unread) → line_ends u.words ≡ Ok tt → StaysOnLine u v → table_lines (empty_table name) v.lines v.end ≡ table_at name u
 unfolding table_at
 begins name u v e stays = rw (e, stays.lines, stays.end) refl

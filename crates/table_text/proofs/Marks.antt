@@ -209,7 +209,7 @@ pub marks_push : (t : Table) (done : List Words) (c : CellLine) → HasAllCells 
 marks_push t done (local s e alts) whole m some = local_marks t done s e alts whole m some
 marks_push t done (answer s e alts) whole m some = snoop_marks t done s e alts whole m some
 
--- no line names a cell behind the rest of the head line
+-- no line names a cell after the rest of the head line
 pub marks_empty : (name : List ℕ) → Marks (empty_table name) ([] ∷ [])
 marks_empty name = record {
   local_free = λ s e none has. nothing (state_word s) (local_event_word e) has;

@@ -17,7 +17,7 @@ use Rattle.table_text.specs.Correct.{AllStand}
 use Rattle.table_text.specs.Writing.{local_given, snoop_given, local_line, snoop_line, state_lines, cells_of}
 use Rattle.table_text.proofs.TableLaws.{place_local, place_snoop}
 
--- so many rows, and behind them empty rows
+-- so many rows, and after them empty rows
 abbrev partly : {X : Type 0} → ℕ → List (List X) → List (List X)
 partly n [] = []
 partly zero (r ∷ rs) = [] ∷ partly zero rs

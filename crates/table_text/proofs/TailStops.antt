@@ -14,7 +14,7 @@ use Rattle.table_text.proofs.Alternatives.{tail, is_word}
 use Rattle.table_text.proofs.Again.{left}
 use Rattle.table_text.proofs.Stops.{Stops, WhyOne, IsFrontOf, equal, refused}
 
--- why what stands behind an event is refused
+-- why what stands after an event is refused
 abbrev pub WhyTail : (Words → Type 0) → Words → Option (List ℕ) → TableKind → Type 0
 WhyTail Begins front None kind = ((kind ≡ NoCell) × (front ≡ codes "=" ∷ [])) ⊎ ((kind ≡ UnknownWord) × ((front ≡ []) ⊎ ((p : Words) × (front ≡ codes "=" ∷ (p ++ bar ∷ [])))))
 WhyTail Begins front (Some w) kind = (kind ≡ UnknownWord) ⊎ ((kind ≡ Alternatives 17) × (bars front ≡ 16) × Begins (front ++ w ∷ []))
@@ -107,7 +107,7 @@ module _ {A X : Type 0} (first : List ℕ → Option X) (read : TableKind → Wo
       no_word (Some x) h e = record { front = []; at = Some w; rest = ws; parts = refl; begins = (any ∷ [], f any, omega arith, refl); why = (few_nil zero, inr (cc, refl, alone w (begins_one w x h))); local = λ more. rw h e }
   alternatives_stop (suc room) missing t ws kind e = one_read room missing t ws kind (read missing ws) refl e (λ u vs h. alternatives_stop room UnknownWord u vs kind h)
 
-  -- behind the event: `=` and the alternatives
+  -- after the event: `=` and the alternatives
   abbrev pub after_event : Table → Words → Result Table TableKind
   after_event t ws = this_word (codes "=") ws >>= λ after. alternatives first read add 16 NoCell t after
 

@@ -7,7 +7,7 @@ use Rattle.table_text.specs.declared.fault.TableFault.{TableFault}
 use Rattle.table_text.specs.declared.fault.TableFault.TheVariants as faults
 use Rattle.table_text.specs.Spelling.{CellLine, local, answer, table_items, table_of, entered, table_grammar}
 
--- a cell line that can stand behind others: its cell was not given, and it has one to sixteen alternatives
+-- a cell line that can stand after others: its cell was not given, and it has one to sixteen alternatives
 abbrev pub CanStand : Table → CellLine → Type 0
 CanStand t (local s e alts) = (locals_of t s e ≡ []) × (0 < length alts) × (length alts ≤ 16)
 CanStand t (answer s e alts) = (answers_of t s e ≡ []) × (0 < length alts) × (length alts ≤ 16)

@@ -89,7 +89,7 @@ abbrev pub bars : Words → ℕ
 bars [] = 0
 bars (w ∷ ws) = (if bytes_eq w bar then 1 else 0) + bars ws
 
--- a cell given twice, and a word behind sixteen bars of its line
+-- a cell given twice, and a word after sixteen bars of its line
 abbrev pub BreaksCell : List Words → Words → List ℕ → TableKind → Type 0
 BreaksCell earlier words here kind = (IsTwice earlier words here × (kind ≡ TwiceCell)) ⊎ ((bars words ≡ 16) × (kind ≡ Alternatives 17))
 

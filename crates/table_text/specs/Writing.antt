@@ -44,7 +44,7 @@ cells_of t = state_lines t M ++ state_lines t O ++ state_lines t E ++ state_line
 unfoldable pub cells_bytes : List CellLine → List ℕ
 cells_bytes cells = lines_bytes (map cell_words cells)
 
--- the lines of a written table behind its head line: the cells in cell order, and the `end` line
+-- the lines of a written table after its head line: the cells in cell order, and the `end` line
 abbrev pub body_rows : Table → List Words
 body_rows t = map cell_words (cells_of t) ++ (codes "end" ∷ []) ∷ []
 
@@ -59,15 +59,15 @@ written_table t = lines_bytes (written_rows t)
 abbrev pub table_room : ℕ
 table_room = 16700
 
--- what a scan of these bytes has yet to give behind the first two words
+-- what a scan of these bytes has yet to give after the first two words
 abbrev pub after_head : List ℕ → Unread
 after_head bytes = after_word (after_word (at_next_line (unread bytes)))
 
--- what a scan has yet to give behind the head line of a written table, which is the line with this number, where other bytes follow the table
+-- what a scan has yet to give after the head line of a written table, which is the line with this number, where other bytes follow the table
 abbrev pub behind_head : ℕ → ℕ → Table → List ℕ → Unread
 behind_head line end t rest = record { line = line; words = []; lines = numbered (line + 1) (lines (lines_bytes (body_rows t) ++ rest)); end = end }
 
--- what it has yet to give behind the table: the bytes that follow it
+-- what it has yet to give after the table: the bytes that follow it
 abbrev pub behind_table : ℕ → ℕ → Table → List ℕ → Unread
 behind_table line end t rest =
     let last = line + length (body_rows t) in

@@ -315,7 +315,7 @@ pub fn read_table(alloc: Global, scan: &mut Scan, name: Name) -> Result<Table, T
         → items (places scan.old) ≡ table_items cells ++ rest → IsReadAs result (table_of name cells) }
     // A table that was written is read again, whatever follows it.
     ensures written { (t : Table) (rest : List ℕ) → IsWhole t → name ≡ t.name → scan.old ≡ after_head (written_table t ++ rest) → IsReadAs result t }
-    // So it is behind other lines, and what follows it is then still to be read.
+    // So it is after other lines, and what follows it is then still to be read.
     ensures goes_on { (t : Table) (line end : ℕ) (rest : List ℕ) → IsWhole t → name ≡ t.name → scan.old ≡ behind_head line end t rest
         → IsReadAs result t × OnOk result (scan.new ≡ behind_table line end t rest) }
     // A fault is that of the first place at fault, with its line and its kind.

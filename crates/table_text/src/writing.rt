@@ -13,7 +13,7 @@ use class_words::{bus_event_text, local_event_text, state_text};
 use fb_text::{NoMemory, Text};
 use moesi_state::{Outcome, State};
 
-/// A word behind a space.
+/// A word after a space.
 fn word(text: &mut Text, word: &str)
     requires { length word.now < text.old.spare }
     ensures bytes { text.new.bytes ≡ text.old.bytes ++ 32 ∷ word.now }
@@ -23,7 +23,7 @@ fn word(text: &mut Text, word: &str)
     text.push(word.as_bytes());
 }
 
-/// A word of one byte behind a space.
+/// A word of one byte after a space.
 fn mark(text: &mut Text, mark: u8)
     requires { 2 ≤ text.old.spare }
     ensures bytes { text.new.bytes ≡ text.old.bytes ++ 32 ∷ mark ∷ [] }
@@ -48,7 +48,7 @@ fn outcome(text: &mut Text, outcome: Outcome)
     }
 }
 
-/// Appends an alternative of a local event, each of its words behind a space. It has at most 11 bytes.
+/// Appends an alternative of a local event, each of its words after a space. It has at most 11 bytes.
 pub fn write_local_action(action: LocalAction, text: &mut Text)
     requires { 11 ≤ text.old.spare }
     ensures bytes { text.new.bytes ≡ text.old.bytes ++ after_words (local_words action) }
@@ -72,7 +72,7 @@ fn signal(text: &mut Text, holds: bool, name: &str)
     }
 }
 
-/// Appends an answer, each of its words behind a space. It has at most 11 bytes.
+/// Appends an answer, each of its words after a space. It has at most 11 bytes.
 pub fn write_answer(action: SnoopAction, text: &mut Text)
     requires { 11 ≤ text.old.spare }
     ensures bytes { text.new.bytes ≡ text.old.bytes ++ after_words (snoop_words action) }

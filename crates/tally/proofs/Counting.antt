@@ -125,6 +125,6 @@ sum_of_events journal = let all = sum_after [] journal in omega (arith, all)
 pub lines_by_counts : (journal : List Event) (counts : List ℕ) → counts ≡ connect_counts journal → flat_map (counts_line counts) bus_events ≡ flat_map (event_line journal) bus_events
 lines_by_counts journal counts is = ap (λ (cs : List ℕ). flat_map (counts_line cs) bus_events) is
 
--- Five pieces behind a text, one after another.
+-- Five pieces after a text, one after another.
 pub five_pieces : (start first second third fourth last a b c d e : List ℕ) → first ≡ start ++ a → second ≡ first ++ b → third ≡ second ++ c → fourth ≡ third ++ d → last ≡ fourth ++ e → last ≡ start ++ (a ++ (b ++ (c ++ (d ++ e))))
 five_pieces start first second third fourth last a b c d e p q r s t = rw (t, s, r, q, p) (simp append_assoc refl)

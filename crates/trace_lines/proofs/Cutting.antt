@@ -42,14 +42,14 @@ pub lines_feed : (b : ℕ) (text : List ℕ) → is_line_feed b ≡ true → lin
 unfolding lines_of
 lines_feed b text is = rw is (closed_pieces [] (slice_split is_line_feed text) (some_pieces text))
 
--- Any other byte stands before the lines behind it.
+-- Any other byte stands before the lines after it.
 pub lines_byte : (b : ℕ) (text : List ℕ) → is_line_feed b ≡ false → lines_of (b ∷ text) ≡ put b (lines_of text)
 unfolding lines_of
 lines_byte b text is = rw is (put_pieces b (slice_split is_line_feed text))
 
 -- ---- what lines are
 
--- A line has no line feed among its bytes, and has bytes where it has no line feed behind them.
+-- A line has no line feed among its bytes, and has bytes where it has no line feed after them.
 pub record IsLine (line : Line) : Type 0 where
   pub lacks : LacksFeed line.bytes
   pub some : line.closed ≡ false → 0 < length line.bytes
@@ -101,7 +101,7 @@ lines_open front lacks = ap lines_of (sym (append-nil front)) ∙ (lines_prefixe
 
 -- ---- a text and what follows it
 
--- These lines, and a piece behind them.
+-- These lines, and a piece after them.
 abbrev pub joined : List Line → List ℕ → List Line
 joined [] piece = lines_of piece
 joined (l ∷ ls) piece = if l.closed then l ∷ joined ls piece else lines_of (l.bytes ++ piece)

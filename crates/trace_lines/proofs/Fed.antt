@@ -11,7 +11,7 @@ use Rattle.trace_lines.specs.Replaying.{Place, reading, ended, refused, by_step,
 use Rattle.trace_lines.proofs.Cutting.{IsLine, are_lines, joined, lines_joined, lines_prefixed}
 use Rattle.trace_lines.proofs.Long.{long_front}
 
--- What follows a closed line is read from behind it.
+-- What follows a closed line is read from after it.
 pub closed_fed : {M : Type 0} (step : M → Event → Option M) (m : M) (number : ℕ) (bytes piece : List ℕ) (f g : M → Place M)
     → ((next : M) → g next ≡ fed step (f next) piece) → at_closed step m number bytes g ≡ fed step (at_closed step m number bytes f) piece
 closed_fed {M} step m number bytes piece f g same = at (is_end_word bytes)

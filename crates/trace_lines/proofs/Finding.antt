@@ -9,7 +9,7 @@ use Rattle.trace_lines.specs.Reader.{LacksFeed, IsCut}
 abbrev pub NoneUpTo : List ℕ → ℕ → Type 0
 NoneUpTo text k = Nowhere (Passes is_line_feed text) 0 k
 
--- What holds of a text holds behind its first byte.
+-- What holds of a text holds after its first byte.
 behind : (b : ℕ) (text : List ℕ) (k : ℕ) → NoneUpTo (b ∷ text) (suc k) → NoneUpTo text k
 behind b text k none = λ j low high found. none (suc j) (omega arith) (omega arith) found
 

@@ -19,7 +19,7 @@ closed_line bytes = record { bytes = bytes; closed = true }
 abbrev pub open_line : List ℕ → Line
 open_line bytes = record { bytes = bytes; closed = false }
 
--- The bytes behind the last line feed are a line where there are any.
+-- The bytes after the last line feed are a line where there are any.
 abbrev pub last_line : List ℕ → List Line
 last_line [] = []
 last_line (b ∷ bs) = open_line (b ∷ bs) ∷ []

@@ -6,7 +6,7 @@ use Rattle.trace_text.specs.Ranges.{InRange}
 use Rattle.trace_text.specs.Spelling.{line_of_event}
 use Rattle.trace_lines.specs.Lines.{trace_of, event_lines}
 
--- The trace of the lines of events, the line `end` and anything behind it is these lines.
+-- The trace of the lines of events, the line `end` and anything after it is these lines.
 abbrev pub PrintedEventsAreTraces : Type 0
 PrintedEventsAreTraces =
     (events : List Event) (rest : List ℕ) → AllByRecursion InRange events

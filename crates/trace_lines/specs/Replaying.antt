@@ -24,7 +24,7 @@ outcome step close m number (line ∷ lines) = by_event step m Err (λ next. out
 abbrev pub replayed : {M : Type 0} → (M → Event → Option M) → (M → Result M ReplayFault) → M → List ℕ → Result M ReplayFault
 replayed step close m text = outcome step close m 1 (trace_of text)
 
--- Where a text leaves its reader: reading a line of this number with these bytes so far, behind the line `end`, or at a fault.
+-- Where a text leaves its reader: reading a line of this number with these bytes so far, after the line `end`, or at a fault.
 pub data Place (M : Type 0) : Type 0 where
   reading : (m : M) (number : ℕ) (unfinished : List ℕ) → Place M
   ended : (m : M) → Place M
@@ -34,7 +34,7 @@ pub data Place (M : Type 0) : Type 0 where
 abbrev pub longest : ℕ
 longest = 256
 
--- Behind a line with its line feed.
+-- After a line with its line feed.
 abbrev pub at_closed : {M : Type 0} → (M → Event → Option M) → M → ℕ → List ℕ → (M → Place M) → Place M
 at_closed step m number bytes go = if is_end_word bytes then ended m else by_event step m refused go number (event_in bytes)
 

@@ -2,7 +2,7 @@
 
 ghost use Rattle.trace_lines.specs.Printed.{PrintedEventsAreTraces};
 
-/// The trace of the lines of events, the line `end` and anything behind it is these lines.
+/// The trace of the lines of events, the line `end` and anything after it is these lines.
 pub fn printed_events_are_traces()
     ensures { PrintedEventsAreTraces }
 {}

@@ -36,7 +36,7 @@ impl Model for Reader {
     ghost invariant = { λ r. LacksFeed r.unfinished.items };
 }
 
-/// The first line and what stands behind its line feed, where there is a line feed.
+/// The first line and what stands after its line feed, where there is a line feed.
 pub fn first_line(text: &[u8]) -> Option<(&[u8], &[u8])>
     ensures { MatchOption result (LacksFeed text.now) (λ parts. IsCut text.now parts.0.now parts.1.now) }
 {
@@ -46,7 +46,7 @@ pub fn first_line(text: &[u8]) -> Option<(&[u8], &[u8])>
     Some(cut(text, end))
 }
 
-/// What stands before a place, and what stands behind it.
+/// What stands before a place, and what stands after it.
 fn cut(text: &[u8], at: usize) -> (&[u8], &[u8])
     requires { at < length text.now }
     ensures front { result.0.now ≡ take at text.now }
@@ -95,7 +95,7 @@ impl Reader {
         self.unfinished.is_empty()
     }
 
-    /// The line ends with these bytes, behind which its line feed stands.
+    /// The line ends with these bytes, after which its line feed stands.
     pub fn close(&mut self, bytes: &[u8]) -> Found
         ensures found { result ≡ found_in (self.old ++ bytes.now) }
         ensures fresh { self.new ≡ [] }

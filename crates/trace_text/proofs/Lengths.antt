@@ -25,7 +25,7 @@ use Rattle.trace_text.specs.Spelling.{placed_word, mark, signals_text, answer_wo
 use Rattle.trace_text.specs.Ranges.{IsBoard, IsReplied, IsCarried, IsSource, AreStates, InRange}
 use Rattle.trace_text.proofs.Ink.{some_words}
 
--- The bytes of words, each with one behind it.
+-- The bytes of words, each with one after it.
 abbrev pub weight : Words → ℕ
 weight [] = 0
 weight (w ∷ ws) = length w + 1 + weight ws

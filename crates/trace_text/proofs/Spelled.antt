@@ -65,7 +65,7 @@ placed_is w p e =
 
 -- ---- signals
 
--- The signals were found at this text, or behind it.
+-- The signals were found at this text, or after it.
 tried : (w : List ℕ) (x y : Response) (rest : Option Response) → (rest ≡ Some y → w ≡ signals_text y) → cond (bytes_eq w (signals_text x)) (Some x) rest ≡ Some y → w ≡ signals_text y
 tried w x y rest behind e = go (bytes_eq w (signals_text x)) refl e
   where

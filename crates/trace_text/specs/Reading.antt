@@ -70,7 +70,7 @@ placed_of w = sides_of w >>= λ s. board_of s.0 >>= λ b. state_of s.1 >>= λ st
 abbrev pub response : Bool → Bool → Bool → Response
 response ch di sl = record { ch = ch; di = di; sl = sl }
 
--- The signals behind the state of an answer.
+-- The signals after the state of an answer.
 unfoldable pub response_of : List ℕ → Option Response
 response_of w =
     if bytes_eq w [] then Some (response false false false) else
@@ -184,15 +184,15 @@ states_at master ws = by placed_of ws >>= λ p. if p.0.0 == master then more_sta
 abbrev pub done : Access → Option ℕ → Done
 done access reply = record { access = access; reply = reply }
 
--- The word that was read, behind its address.
+-- The word that was read, after its address.
 abbrev pub read_as : ℕ → Words → Option Done
 read_as a ws = this (codes "=") ws >>= λ more. by (number_between 0 4294967295) more >>= λ v. ended (done (access.Read a) (Some v.0)) v.1
 
--- The word that was written, behind its address.
+-- The word that was written, after its address.
 abbrev pub written_as : ℕ → Words → Option Done
 written_as a ws = by (number_between 0 4294967295) ws >>= λ v. ended (done (access.Write a v.0) None) v.1
 
--- The rest of a completed access of this kind, behind its address.
+-- The rest of a completed access of this kind, after its address.
 abbrev pub done_with : LocalEvent → ℕ → Words → Option Done
 done_with Read a ws = read_as a ws
 done_with Write a ws = written_as a ws
@@ -212,7 +212,7 @@ unfoldable pub carried_at : Words → Option (Option Done)
 carried_at [] = None
 carried_at (w ∷ ws) = if bytes_eq w (codes "evict") then ended None ws else (done_at (w ∷ ws) >>= λ d. Some (Some d))
 
--- ---- events, behind their first word
+-- ---- events, after their first word
 
 -- A local event.
 unfoldable pub local_at : Words → Option Event

@@ -182,7 +182,7 @@ fn carried(line: &mut Pieces) -> Option<Option<Done>>
     Some(Some(done))
 }
 
-/// A local line behind its first word.
+/// A local line after its first word.
 #[tactic(auto, unfolding(crate::specs::Reading::local_at))]
 fn local(line: &mut Pieces) -> Option<Event>
     ensures { result ≡ local_at line.old }
@@ -201,7 +201,7 @@ fn local(line: &mut Pieces) -> Option<Event>
     })
 }
 
-/// A drop line behind its first word.
+/// A drop line after its first word.
 #[tactic(auto, unfolding(crate::specs::Reading::drop_at))]
 fn dropped(line: &mut Pieces) -> Option<Event>
     ensures { result ≡ drop_at line.old }
@@ -221,7 +221,7 @@ fn dropped(line: &mut Pieces) -> Option<Event>
     )
 }
 
-/// A raise line behind its first word.
+/// A raise line after its first word.
 #[tactic(auto, unfolding(crate::specs::Reading::raise_at))]
 fn raise(line: &mut Pieces) -> Option<Event>
     ensures { result ≡ raise_at line.old }
@@ -230,7 +230,7 @@ fn raise(line: &mut Pieces) -> Option<Event>
     at_end(line, Event::Raise { board })
 }
 
-/// A grant line behind its first word.
+/// A grant line after its first word.
 #[tactic(auto, unfolding(crate::specs::Reading::grant_at))]
 fn grant(line: &mut Pieces) -> Option<Event>
     ensures { result ≡ grant_at line.old }
@@ -253,7 +253,7 @@ fn grant(line: &mut Pieces) -> Option<Event>
     )
 }
 
-/// A connect line behind its first word.
+/// A connect line after its first word.
 #[tactic(auto, unfolding(crate::specs::Reading::connect_at))]
 fn connected(line: &mut Pieces) -> Option<Event>
     ensures { result ≡ connect_at line.old }
@@ -275,7 +275,7 @@ fn connected(line: &mut Pieces) -> Option<Event>
     }))
 }
 
-/// A data line behind its first word.
+/// A data line after its first word.
 #[tactic(auto, unfolding(crate::specs::Reading::data_at))]
 fn data(line: &mut Pieces) -> Option<Event>
     ensures { result ≡ data_at line.old }

@@ -65,7 +65,7 @@ fn signals(ch: bool, di: bool, sl: bool) -> Response
     Response { ch, di, sl }
 }
 
-/// The signals behind the state of an answer.
+/// The signals after the state of an answer.
 #[tactic(auto, unfolding(crate::specs::Reading::response_of))]
 fn response(word: &[u8]) -> Option<Response>
     ensures { result ≡ response_of word.now }
@@ -91,7 +91,7 @@ fn response(word: &[u8]) -> Option<Response>
     }
 }
 
-/// The first byte of a text, if there is one, and what stands behind it.
+/// The first byte of a text, if there is one, and what stands after it.
 fn first_byte(text: &[u8]) -> (&[u8], &[u8])
     ensures front { result.0.now ≡ take 1 text.now }
     ensures back { result.1.now ≡ drop 1 text.now }

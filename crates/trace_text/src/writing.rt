@@ -19,7 +19,7 @@ use itoa::Buffer;
 use journal::{Answer, Carried, Connected, Done, Event, Source, Takers};
 use moesi_state::{Outcome, State};
 
-/// A word behind a space.
+/// A word after a space.
 fn word(text: &mut Text, word: &str)
     requires { length word.now < text.old.spare }
     ensures bytes { text.new.bytes ≡ text.old.bytes ++ 32 ∷ word.now }
@@ -40,7 +40,7 @@ fn digits(text: &mut Text, value: u64)
     text.push(buffer.format(value).as_bytes());
 }
 
-/// A number behind a space.
+/// A number after a space.
 fn number(text: &mut Text, value: u64)
     requires { length (decimal value) < text.old.spare }
     ensures bytes { text.new.bytes ≡ text.old.bytes ++ 32 ∷ decimal value }
@@ -223,7 +223,7 @@ fn source(text: &mut Text, source: Source)
     }
 }
 
-/// Boards, the first behind `lead` and the others behind a comma.
+/// Boards, the first after `lead` and the others after a comma.
 #[tactic(auto, using(crate::proofs::Lengths::board_short))]
 fn boards(text: &mut Text, lead: u8, boards: &[BoardNo])
     requires boards { AllByRecursion IsBoard boards.now }
