@@ -8,11 +8,14 @@ use Rattle.settling.specs.Settling.{lines_after, driven_below, rounds_from}
 use Rattle.bus_model.specs.WorkedWords.{read, write, flush, connection, says}
 use Rattle.bus_model.specs.WorkedRuns.{Plays}
 use Rattle.bus_model.specs.WorkedRoom.{write_through_word, write_through_word_schedule, write_through_word_events, write_through_word_end, victim_flush, victim_flush_schedule, victim_flush_events, victim_flush_end, given_up, given_up_schedule, given_up_events, given_up_end, alternation, alternation_schedule, alternation_events, alternation_end}
+use Rattle.bus_model.proofs.WorkedSetups
 
 pub write_through_word_plays : Plays write_through_word write_through_word_schedule write_through_word_events write_through_word_end
 unfolding lines_after driven_below rounds_from
 write_through_word_plays =
     record {
+      fits = WorkedSetups.write_through_word_fits;
+      accepted = WorkedSetups.write_through_word_accepted;
       turns = refl;
       runs = (
         (write 0 5, record { present = refl; not_raised = refl; not_granted = refl; not_connected = refl; needs = refl }),
@@ -69,6 +72,8 @@ pub victim_flush_plays : Plays victim_flush victim_flush_schedule victim_flush_e
 unfolding lines_after driven_below rounds_from
 victim_flush_plays =
     record {
+      fits = WorkedSetups.victim_flush_fits;
+      accepted = WorkedSetups.victim_flush_accepted;
       turns = refl;
       runs = (
         (write 0 1, record { present = refl; not_raised = refl; not_granted = refl; not_connected = refl; needs = refl }),
@@ -113,6 +118,8 @@ pub given_up_plays : Plays given_up given_up_schedule given_up_events given_up_e
 unfolding lines_after driven_below rounds_from
 given_up_plays =
     record {
+      fits = WorkedSetups.given_up_fits;
+      accepted = WorkedSetups.given_up_accepted;
       turns = refl;
       runs = (
         (write 0 5, record { present = refl; not_raised = refl; not_granted = refl; not_connected = refl; needs = refl }),
@@ -178,6 +185,8 @@ pub alternation_plays : Plays alternation alternation_schedule alternation_event
 unfolding lines_after driven_below rounds_from
 alternation_plays =
     record {
+      fits = WorkedSetups.alternation_fits;
+      accepted = WorkedSetups.alternation_accepted;
       turns = refl;
       runs = (
         (write 0 1, record { present = refl; not_raised = refl; not_granted = refl; not_connected = refl; needs = refl }),

@@ -11,11 +11,14 @@ use Rattle.bus_model.specs.Steps.{Can}
 use Rattle.bus_model.specs.Turns.{turn, Waits, LineHeld}
 use Rattle.bus_model.specs.WorkedWords.{read, write, connection, says, data_of, did}
 use Rattle.bus_model.specs.WorkedRuns.{Plays, intervention, intervention_schedule, intervention_events, intervention_end, broadcast, broadcast_schedule, broadcast_events, broadcast_end, no_hit, no_hit_schedule, no_hit_events, no_hit_end, gap, gap_schedule, gap_events, gap_end, quiet_read, quiet_read_schedule, quiet_read_events, quiet_read_end, intervening, between_phases}
+use Rattle.bus_model.proofs.WorkedSetups
 
 pub intervention_plays : Plays intervention intervention_schedule intervention_events intervention_end
 unfolding lines_after driven_below rounds_from
 intervention_plays =
     record {
+      fits = WorkedSetups.intervention_fits;
+      accepted = WorkedSetups.intervention_accepted;
       turns = refl;
       runs = (
         (write 5 7, record { present = refl; not_raised = refl; not_granted = refl; not_connected = refl; needs = refl }),
@@ -48,6 +51,8 @@ pub broadcast_plays : Plays broadcast broadcast_schedule broadcast_events broadc
 unfolding lines_after driven_below rounds_from
 broadcast_plays =
     record {
+      fits = WorkedSetups.broadcast_fits;
+      accepted = WorkedSetups.broadcast_accepted;
       turns = refl;
       runs = (
         (write 0 5, record { present = refl; not_raised = refl; not_granted = refl; not_connected = refl; needs = refl }),
@@ -104,6 +109,8 @@ pub no_hit_plays : Plays no_hit no_hit_schedule no_hit_events no_hit_end
 unfolding lines_after driven_below rounds_from
 no_hit_plays =
     record {
+      fits = WorkedSetups.no_hit_fits;
+      accepted = WorkedSetups.no_hit_accepted;
       turns = refl;
       runs = (
         (read 4, record { present = refl; not_raised = refl; not_granted = refl; not_connected = refl; needs = refl }),
@@ -148,6 +155,8 @@ pub gap_plays : Plays gap gap_schedule gap_events gap_end
 unfolding lines_after driven_below rounds_from
 gap_plays =
     record {
+      fits = WorkedSetups.gap_fits;
+      accepted = WorkedSetups.gap_accepted;
       turns = refl;
       runs = (
         (read 0, record { present = refl; not_raised = refl; not_granted = refl; not_connected = refl; needs = refl }),
@@ -192,6 +201,8 @@ pub quiet_read_plays : Plays quiet_read quiet_read_schedule quiet_read_events qu
 unfolding lines_after driven_below rounds_from
 quiet_read_plays =
     record {
+      fits = WorkedSetups.quiet_read_fits;
+      accepted = WorkedSetups.quiet_read_accepted;
       turns = refl;
       runs = (
         (read 0, record { present = refl; not_raised = refl; not_granted = refl; not_connected = refl; needs = refl }),

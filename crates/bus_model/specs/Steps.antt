@@ -144,7 +144,7 @@ after c (Grant by winner lines rounds) = in_phase (Granted winner) (ask false c 
 after c (Connect t) = after_connect c t
 after c (DataPhase e) = after_data c e
 
--- A step leads from one configuration to another by an event.
+-- A step leads from one configuration to another by an event: the event may happen, and the other configuration is the one after it. `Leads` says the same of each event of a run by `Can` and `after`.
 pub record Step (setup : Setup) (c : Configuration) (event : Event) (next : Configuration) : Type 0 where
   pub can : Can setup c event
   pub moves : next ≡ after c event

@@ -82,13 +82,13 @@ bus_holder Idle = 0
 bus_holder (Granted board) = board
 bus_holder (Connected t) = t.master
 
--- The transaction of a board that is connected.
+-- The transaction of a board that is connected, where the turn is its data phase (case 2).
 abbrev pub own_transaction : Phase → ℕ → Option Transaction
 own_transaction Idle board = None
 own_transaction (Granted b) board = None
 own_transaction (Connected t) board = if t.master == board then Some t else None
 
--- A turn without the bus.
+-- A turn without the bus: the board completes its access, or waits for a line that is held (case 3).
 abbrev pub local_turn : Setup → Configuration → ℕ → Access → State → Turn
 local_turn setup c board access state =
     let line = access_line access in
@@ -97,25 +97,25 @@ local_turn setup c board access state =
     then Waits (LineHeld (bus_holder c.phase) line)
     else Did (Local board before state (record { access = access; reply = reply_of access (words_at c.rows board line) }))
 
--- The grant of a turn.
+-- The grant of a turn (case 7).
 abbrev pub grant_turn : Setup → Configuration → ℕ → Turn
 grant_turn setup c board =
     let numbers = competing_numbers setup c.boards in
     Did (Grant board (winner_of setup c) (settled_lines numbers) (settled_rounds numbers))
 
--- A turn of a board that has no grant and needs the bus: it raises a request, then grants the bus where it is idle, and else waits.
+-- A turn of a board that has no grant and needs the bus: it raises a request (case 6), with a request raised it grants the bus where the bus is idle (case 7), and else it waits (case 8).
 abbrev pub request_turn : Setup → Configuration → ℕ → Bool → Phase → Turn
 request_turn setup c board false phase = Did (Raise board)
 request_turn setup c board true Idle = grant_turn setup c board
 request_turn setup c board true (Granted b) = Waits (BusTaken b)
 request_turn setup c board true (Connected t) = Waits (BusTaken t.master)
 
--- A turn for a transaction.
+-- A turn for a transaction: a board that is granted the bus connects (case 5).
 abbrev pub bus_turn : Setup → Configuration → ℕ → ℕ → BusEvent → Outcome → Bool → Turn
 bus_turn setup c board line event outcome true = Did (Connect (transaction_of setup c board line event outcome))
 bus_turn setup c board line event outcome false = request_turn setup c board (is_raised c.boards board) c.phase
 
--- A turn that must first make room by a victim: a clean victim is dropped unless its line is held, and any other is flushed.
+-- A turn that must first make room by a victim: a clean victim is dropped unless its line is held, and any other is flushed (case 4).
 abbrev pub room_turn : Setup → Configuration → ℕ → ℕ → State → Bool → Turn
 room_turn setup c board line state true =
     if is_held c.phase board line then Waits (LineHeld (bus_holder c.phase) line) else Did (Drop board line state)
@@ -142,12 +142,12 @@ access_turn setup c board access (Some t) = Did (DataPhase (carried_of setup c t
 access_turn setup c board access None =
     let action = decide setup c board access in action_turn setup c board access action.result action.bus
 
--- A turn of a board, by what it has still to do.
+-- A turn of a board, by what it has still to do: without an access it is finished (case 1).
 abbrev pub turn_for : Setup → Configuration → ℕ → Option Access → Turn
 turn_for setup c board None = Finished
 turn_for setup c board (Some access) = access_turn setup c board access (own_transaction c.phase board)
 
--- A turn of a board.
+-- A turn of a board. The cases of its parts are numbered in the order in which they are tried.
 abbrev pub turn : Setup → Configuration → ℕ → Turn
 turn setup c board = turn_for setup c board (present_access setup c.boards board)
 

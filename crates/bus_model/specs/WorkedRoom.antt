@@ -1,4 +1,4 @@
--- Small runs in which a board makes room, takes a word, gives up a grant or takes its alternatives in turn.
+-- Small runs in which a board makes room, takes a word, gives up a grant or takes its alternatives in turn: each has a setup, its schedule, the events of the schedule's turns, and the configuration to which they lead.
 use Rattle.std.specs.Prelude.{ℕ, true, false, List, [], ◌∷◌, Some, None, slice_set, codes}
 use Rattle.bus_signals.specs.declared.BusEvent.TheVariants.{Rd, Rfo, Uwr, Ubw, Flu}
 use Rattle.moesi_state.specs.declared.State.TheVariants.{M, O, E, S, I}

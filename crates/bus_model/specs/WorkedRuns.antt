@@ -1,4 +1,4 @@
--- Small runs: a setup, a schedule, the events of its turns, and the configuration to which they lead.
+-- Small runs: each has a setup, its schedule, the events of the schedule's turns, and the configuration to which they lead.
 use Rattle.std.specs.Prelude.{◌≡◌, ℕ, true, false, List, [], ◌∷◌, Some, None, take, slice_set, codes}
 use Rattle.bus_signals.specs.declared.BusEvent.TheVariants.{Rd, Rfo, Inv, Urd, Bwr}
 use Rattle.moesi_state.specs.declared.State.TheVariants.{M, O, E, S, I}
@@ -6,7 +6,7 @@ use Rattle.moesi_state.specs.declared.Outcome.TheVariants.{Fixed, OnHit}
 use Rattle.class_relation.specs.Actions.{answer}
 use Rattle.class_relation.specs.Tables.{Table}
 use Rattle.table_check.specs.KnownTables.{uncached, copy_back, copy_back_update, write_through, quiet}
-use Rattle.bus_model.specs.Setup.{Setup}
+use Rattle.bus_model.specs.Setup.{Setup, WellFormed, AllInClass}
 use Rattle.bus_model.specs.Events.{Event, Local, Raise, Grant, Connect, Nobody, Memory, Board}
 use Rattle.bus_model.specs.Configuration.{Configuration, Idle, opening}
 use Rattle.bus_model.specs.Carrying.{no_takers, with_memory}
@@ -14,8 +14,10 @@ use Rattle.bus_model.specs.Runs.{Run, after_all}
 use Rattle.bus_model.specs.Turns.{events_of_turns}
 use Rattle.bus_model.specs.WorkedWords.{read, write, cached_board, plain_board, connection, says, data_of, did, copy, progress}
 
--- The turns of a schedule give these events, and the events are a run to this configuration.
+-- A setup within its limits, whose tables are all in the class: the turns of a schedule give these events, and the events are a run to this configuration.
 pub record Plays (setup : Setup) (schedule : List ℕ) (events : List Event) (last : Configuration) : Type 0 where
+  pub fits : WellFormed setup
+  pub accepted : AllInClass setup
   pub turns : events_of_turns setup (opening setup) schedule ≡ events
   pub runs : Run setup events last
 

@@ -1,6 +1,7 @@
 use Rattle.bus_model.proofs.WorkedRuns
 use Rattle.bus_model.proofs.WorkedRoom
-use Rattle.bus_model.proofs.small_runs_are_played.Goals as goal
+use Rattle.bus_model.proofs.WorkedCopies
+use Rattle.bus_model.proofs.runs.small_runs_are_played.Goals as goal
 
 pub returns-clause-intervention : goal.returns-clause-intervention
 returns-clause-intervention c = WorkedRuns.intervention_plays
@@ -28,3 +29,9 @@ returns-clause-given_up c = WorkedRoom.given_up_plays
 
 pub returns-clause-alternation : goal.returns-clause-alternation
 returns-clause-alternation c = WorkedRoom.alternation_plays
+
+pub returns-clause-clean_victim : goal.returns-clause-clean_victim
+returns-clause-clean_victim c = WorkedCopies.clean_victim_plays
+
+pub returns-clause-captured : goal.returns-clause-captured
+returns-clause-captured c = WorkedCopies.captured_plays

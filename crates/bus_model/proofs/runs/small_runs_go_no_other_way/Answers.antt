@@ -1,5 +1,5 @@
 use Rattle.bus_model.proofs.WorkedRuns
-use Rattle.bus_model.proofs.small_runs_go_no_other_way.Goals as goal
+use Rattle.bus_model.proofs.runs.small_runs_go_no_other_way.Goals as goal
 
 pub returns-clause-waits : goal.returns-clause-waits
 returns-clause-waits c = WorkedRuns.write_waits
