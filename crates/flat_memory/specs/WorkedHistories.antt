@@ -1,5 +1,5 @@
 -- Small histories: which are those of one memory, and which are not.
-use Rattle.std.specs.Prelude.{ℕ, List, [], ◌∷◌, Option, Some, None}
+use Rattle.std.specs.Prelude.{ℕ, List, [], ◌∷◌, Some, None}
 use Rattle.bus_signals.specs.declared.Access.{Access}
 use Rattle.flat_memory.specs.declared.entry.Entry.{Entry}
 

@@ -1,19 +1,15 @@
 -- The class of tables goes by paths: the test of reached states and the faults come to the same.
-use Rattle.std.proofs.Common.{◌≡◌, ◌≢◌, ℕ, ◌+◌, Bool, true, false, ◌&&◌, List, [], ◌∷◌, ◌++◌, refl, ap, ◌∙◌}
-use Rattle.std.specs.Prelude.{All, flat_map, if◌then◌else◌}
+use Rattle.std.proofs.Common.{◌≡◌, ◌≢◌, ℕ, ◌+◌, Bool, true, false, ◌&&◌, List, [], ◌∷◌, refl, ap}
+use Rattle.std.specs.Prelude.{flat_map, if◌then◌else◌}
 use Rattle.std.specs.List.{AllByRecursion}
 use Rattle.std.proofs.lemmas.List.Elements.{All-from_recursion, recursion_from_All}
-use Rattle.bus_signals.specs.declared.BusEvent.{BusEvent}
-use Rattle.bus_signals.specs.declared.LocalEvent.{LocalEvent}
-use Rattle.moesi_state.specs.declared.State.{State}
 use Rattle.moesi_state.specs.States.{holds}
 use Rattle.class_relation.specs.declared.Cell.{Cell}
 use Rattle.class_relation.specs.Permitted.{is_permitted_local, is_permitted_answer, does_come, is_empty}
 use Rattle.class_relation.specs.Tables.{Table, locals_of, answers_of}
-use Rattle.table_check.specs.Reached.{Reached, is_reached}
-use Rattle.table_check.specs.declared.verdict.CellFault.{CellFault}
+use Rattle.table_check.specs.Reached.{is_reached}
 use Rattle.table_check.specs.declared.verdict.CellFault.TheVariants.{Missing}
-use Rattle.table_check.specs.Accepted.{InClass, faults, all_cells, failing_numbers, faults_at, forbidden_numbers, forbidden_faults, missing_faults, is_needed, is_absent, is_missing}
+use Rattle.table_check.specs.Accepted.{InClass, faults, all_cells, failing_numbers, faults_at, forbidden_faults, missing_faults, is_needed, is_absent, is_missing}
 use Rattle.table_check.specs.Paths.{Needed, AllPermitted, HasAlternative, KeepsToClass, ReachedGoesByPaths, ClassGoesByPaths}
 use Rattle.class_relation.proofs.Spelling.{both_true}
 use Rattle.table_check.proofs.Permitted.{permitted_locals, permitted_answers}

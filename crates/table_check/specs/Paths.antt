@@ -1,5 +1,5 @@
 -- The class of tables, said by paths and cells alone.
-use Rattle.std.specs.Prelude.{◌≢◌, ◌↔◌, List, [], IsTrue, All}
+use Rattle.std.specs.Prelude.{◌≢◌, ◌↔◌, [], IsTrue, All}
 use Rattle.moesi_state.specs.declared.State.{State}
 use Rattle.moesi_state.specs.States.{holds}
 use Rattle.class_relation.specs.declared.Cell.{Cell}
