@@ -1,2 +1,5 @@
 pub mod Behind
 pub mod Numbers
+pub mod LineLengths
+pub mod ShortWords
+pub mod ShortTexts

@@ -1,3 +1,4 @@
 pub mod Lines
 pub mod RunText
 pub mod Printing
+pub mod Lengths

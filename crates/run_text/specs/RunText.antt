@@ -1,14 +1,12 @@
 -- The text of a run: the line of each event, `end`, and the ending.
-use Rattle.std.specs.Prelude.{◌≡◌, ℕ, List, [], ◌∷◌, ◌++◌, codes}
-use Rattle.std.specs.List.{flat_map, AllByRecursion}
+use Rattle.std.specs.Prelude.{ℕ, List, [], ◌∷◌, ◌++◌, codes}
+use Rattle.std.specs.List.{flat_map}
 use Rattle.fb_text.specs.Written.{line_bytes}
 use Rattle.trace_text.specs.Spelling.{line_of_event}
-use Rattle.trace_text.specs.Ranges.{InRange}
 use Rattle.bus_model.specs.Setup.{Setup, board_places, line_count}
 use Rattle.bus_model.specs.Events.{Event}
-use Rattle.bus_model.specs.Configuration.{Configuration, opening, memory_line, row_at}
+use Rattle.bus_model.specs.Configuration.{Configuration, memory_line, row_at}
 use Rattle.bus_model.specs.Entries.{Entry, entries, entries_of}
-use Rattle.bus_model.specs.Runs.{Run, Complete, after_all}
 use Rattle.run_text.specs.Lines.{numbers_below, entry_line, memory_text, row_text}
 
 -- The replies to the reads of a board, in order.
@@ -52,11 +50,3 @@ events_text events = flat_map line_of_event events
 -- The text of a run.
 abbrev pub run_text : Setup → List Event → Configuration → List ℕ
 run_text setup events c = events_text events ++ (line_bytes (codes "end" ∷ []) ++ ending setup events c)
-
--- The text is that of a complete run of a setup, each of whose events has its line.
-pub record IsRunText (setup : Setup) (bytes : List ℕ) : Type 0 where
-  pub events : List Event
-  pub spelled : AllByRecursion InRange events
-  pub run : Run setup events (after_all (opening setup) events)
-  pub complete : Complete setup (after_all (opening setup) events)
-  pub text : bytes ≡ run_text setup events (after_all (opening setup) events)

@@ -11,6 +11,7 @@
 //! written when it has no room for one more, and at the end. No call here takes memory.
 #![tactic(auto)]
 
+mod laws;
 mod lines;
 mod page;
 mod printing;
@@ -18,5 +19,6 @@ mod run;
 #[cfg(test)]
 mod tests;
 
+pub use laws::run_texts_fit;
 pub use lines::{write_copy, write_memory, write_reply};
 pub use run::{print_ending, print_run};
