@@ -21,7 +21,7 @@ fn is_refused(machine: &mut Machine, event: &Event) -> bool {
 
 /// Whether a line goes as it should: the event of a line that begins with `!` is no step and is refused, and that of any
 /// other line is applied.
-fn goes_so(machine: &mut Machine, line: &str) -> bool {
+fn is_right(machine: &mut Machine, line: &str) -> bool {
     let (spelling, is_step) = match line.strip_prefix("! ") {
         Some(other) => (other, false),
         None => (line, true),
@@ -38,28 +38,25 @@ fn goes_so(machine: &mut Machine, line: &str) -> bool {
     }
 }
 
-/// Takes these lines in order, and gives the number of the first one that does not go as it should. Where all do, it gives 0
-/// if the run is complete, and otherwise the number of lines plus one.
-fn first_otherwise(machine: &mut Machine, lines: &str) -> u64 {
-    let mut number = 1u64;
-    for line in lines.lines() {
-        if !goes_so(machine, line) {
-            return number;
-        }
-        number = number.saturating_add(1);
-    }
-    if machine.finished() { 0 } else { number }
-}
-
-/// The same from the opening of a setup.
-fn played(alloc: Global, memory: &str, boards: &str, lines: &str) -> Result<u64, Fail> {
+/// Takes these lines in order, from the opening of a setup to the end of its run. The first line that does not go as it
+/// should is the failure.
+fn play(alloc: Global, memory: &str, boards: &str, lines: &str) -> Result<(), Fail> {
     let mut machine = machine(alloc, memory, boards)?;
-    Ok(first_otherwise(&mut machine, lines))
+    for line in lines.lines() {
+        if !is_right(&mut machine, line) {
+            return Err(Fail::new(format_args!("wrong at: {line}")));
+        }
+    }
+    if machine.finished() {
+        Ok(())
+    } else {
+        Err(Fail::from("the run is not complete"))
+    }
 }
 
 #[test]
 fn an_owner_intervenes(rt: HostRuntime) -> Result<(), Fail> {
-    let otherwise = played(
+    play(
         rt.alloc(),
         "memory 2\nword 5 100\n",
         "board 1 number 10 table cb cached 1 1 choose first\nwrite 5 7\n\
@@ -96,14 +93,12 @@ fn an_owner_intervenes(rt: HostRuntime) -> Result<(), Fail> {
          ! data 2 urd line 1 from 1 into none states 2=I 1=M done read 5 = 100\n\
          data 2 urd line 1 from 1 into none states 2=I 1=M done read 5 = 7\n\
          ! raise 2\n",
-    )?;
-    assert_eq!(rt; otherwise, 0);
-    Ok(())
+    )
 }
 
 #[test]
 fn a_word_is_broadcast(rt: HostRuntime) -> Result<(), Fail> {
-    let otherwise = played(
+    play(
         rt.alloc(),
         "memory 1\n",
         "board 1 number 10 table cb cached 1 1 choose first\nwrite 0 5\n\
@@ -128,14 +123,12 @@ fn a_word_is_broadcast(rt: HostRuntime) -> Result<(), Fail> {
          ! connect 3 urd line 0 to I answers 2=O+DI\n\
          connect 3 urd line 0 to I answers 1=S 2=O+DI\n\
          data 3 urd line 0 from 2 into none states 3=I 1=S 2=O done read 0 = 5\n",
-    )?;
-    assert_eq!(rt; otherwise, 0);
-    Ok(())
+    )
 }
 
 #[test]
 fn a_held_line_stays(rt: HostRuntime) -> Result<(), Fail> {
-    let otherwise = played(
+    play(
         rt.alloc(),
         "memory 1\n",
         "board 1 number 10 table cb cached 1 1 choose first\nread 0\nwrite 0 9\n\
@@ -153,14 +146,12 @@ fn a_held_line_stays(rt: HostRuntime) -> Result<(), Fail> {
          grant 1 to 1 lines 10 rounds 0\n\
          connect 1 inv line 0 to M answers 2=I\n\
          data 1 inv line 0 from none into none states 1=M 2=I done write 0 9\n",
-    )?;
-    assert_eq!(rt; otherwise, 0);
-    Ok(())
+    )
 }
 
 #[test]
 fn a_grant_is_given_up(rt: HostRuntime) -> Result<(), Fail> {
-    let otherwise = played(
+    play(
         rt.alloc(),
         "memory 2\n",
         "board 1 number 10 table cb cached 1 1 choose first\nwrite 0 5\nflush 0\n\
@@ -188,14 +179,12 @@ fn a_grant_is_given_up(rt: HostRuntime) -> Result<(), Fail> {
          grant 3 to 3 lines 7 rounds 0\n\
          connect 3 rd line 1 to CH:S/E answers none\n\
          data 3 rd line 1 from memory into none states 3=E done read 4 = 0\n",
-    )?;
-    assert_eq!(rt; otherwise, 0);
-    Ok(())
+    )
 }
 
 #[test]
 fn victims_make_room(rt: HostRuntime) -> Result<(), Fail> {
-    let otherwise = played(
+    play(
         rt.alloc(),
         "memory 3\n",
         "board 1 number 3 table cb cached 1 1 choose first\nread 0\nwrite 4 2\nread 8\nend\n",
@@ -225,7 +214,5 @@ fn victims_make_room(rt: HostRuntime) -> Result<(), Fail> {
          grant 1 to 1 lines 3 rounds 0\n\
          connect 1 rd line 2 to CH:S/E answers none\n\
          data 1 rd line 2 from memory into none states 1=E done read 8 = 0\n",
-    )?;
-    assert_eq!(rt; otherwise, 0);
-    Ok(())
+    )
 }

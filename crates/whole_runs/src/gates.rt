@@ -1,14 +1,14 @@
-//! Gates that see the workers of a race, and hold some of their turns.
+//! Gates that count the turns of a race's workers, and hold some of them.
 
 use bus_signals::BoardNo;
 use fb_edge::Gate;
 use std::sync::atomic::{AtomicBool, AtomicU64, Ordering};
 use std::thread;
 
-/// A gate looks at most so often for a turn that it waits for.
+/// How often a gate looks for a turn that it waits for before it gives up.
 const MOST_LOOKS: u32 = 100_000_000;
 
-/// Looks until the mark is set. The answer is whether it was seen.
+/// Waits for the mark to be set. Answers whether it was.
 fn is_seen(mark: &AtomicBool) -> bool {
     for _ in 0..MOST_LOOKS {
         if mark.load(Ordering::SeqCst) {
@@ -19,7 +19,7 @@ fn is_seen(mark: &AtomicBool) -> bool {
     false
 }
 
-/// How often each of four boards has come.
+/// How often each of four boards has come to a gate.
 #[derive(Drop)]
 pub struct Calls {
     boards: [AtomicU64; 4],
@@ -72,7 +72,7 @@ impl Meeting {
         }
     }
 
-    // Tells that one board has come, and looks for the other.
+    // Marks that one board has come, and waits for the other.
     fn meet(&self, own: &AtomicBool, other: &AtomicBool) {
         own.store(true, Ordering::SeqCst);
         if is_seen(other) {
@@ -103,7 +103,7 @@ impl Gate for Meeting {
 pub struct HeadStart {
     pub calls: Calls,
     ahead: AtomicBool,
-    // How many boards were held to the end of their looks.
+    // How many boards gave up waiting.
     unseen: AtomicU64,
 }
 

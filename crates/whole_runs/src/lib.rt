@@ -5,6 +5,8 @@
 #[cfg(test)]
 mod applied;
 #[cfg(test)]
+mod commands;
+#[cfg(test)]
 mod gates;
 #[cfg(test)]
 mod machines;

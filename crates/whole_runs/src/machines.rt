@@ -8,8 +8,8 @@ use setup_text::{Setup, read_setup};
 use std::alloc::Global;
 use std::test::Fail;
 
-/// A cached board that takes other copies away before it writes, one that broadcasts what it writes, one that writes
-/// through, and one without a cache.
+/// Tables for a cached board that invalidates other copies before it writes, one that broadcasts what it writes, one that
+/// writes through, and one without a cache.
 const TABLES: &str =
     "table cb\nM read = M\nM write = M\nM pass = E pas\nM flush = I flu\nM rd = O CH DI\n\
      M rfo = I DI\nM urd = M DI\nM uwr = M DI\nM ubw = M SL\nO read = O\nO write = M inv\n\
@@ -32,9 +32,14 @@ const TABLES: &str =
      I read = S rd\nI write = I uwr\nI pass = I\nI flush = I\nend\n\
      table un\nI read = I urd\nI write = I uwr\nI pass = I\nI flush = I\nend\n";
 
+/// The text of the setup with these lines before and after its tables.
+fn text(alloc: Global, memory: &str, boards: &str) -> Result<String, Fail> {
+    Ok(format!(in alloc; "{memory}{TABLES}{boards}")?)
+}
+
 /// The setup with these lines before and after its tables.
 fn setup(alloc: Global, memory: &str, boards: &str) -> Result<Setup, Fail> {
-    let text = format!(in alloc; "{memory}{TABLES}{boards}")?;
+    let text = text(alloc, memory, boards)?;
     if text.len() > 10_000 {
         return Err(Fail::from("a long setup"));
     }
@@ -66,7 +71,7 @@ pub fn machine(alloc: Global, memory: &str, boards: &str) -> Result<Machine, Fai
     }
 }
 
-/// A machine on which board 1 is to write a word that board 2 is to read.
+/// A machine on which board 1 writes a word that board 2 reads.
 pub fn writer_and_reader(alloc: Global) -> Result<Machine, Fail>
     ensures { IfOk result (λ machine. machine.journal ≡ []) }
 {
@@ -78,23 +83,27 @@ pub fn writer_and_reader(alloc: Global) -> Result<Machine, Fail>
     )
 }
 
-/// A machine with an uncached board, one that writes through and two that copy back, on one line. Each writes a counter of
-/// its own twice, and reads all four.
+/// An uncached board, one that writes through and two that copy back, on one line. Each writes a counter of its own twice,
+/// and reads all four.
+const COUNTERS: &str = "board 1 number 5 table un plain choose first\n\
+    read 0\nwrite 0 1\nread 1\nread 2\nread 3\nwrite 0 2\nread 0\n\
+    board 2 number 9 table wt cached 1 1 choose first\n\
+    write 1 1\nread 0\nread 2\nread 3\nwrite 1 2\nread 1\n\
+    board 3 number 12 table cb cached 1 1 choose first\n\
+    write 2 1\nread 0\nread 1\nread 3\nwrite 2 2\nread 2\n\
+    board 4 number 7 table cb cached 1 1 choose first\n\
+    write 3 1\nread 0\nread 1\nread 2\nwrite 3 2\nread 3\nend\n";
+
+/// The machine of four boards that count.
 pub fn counters(alloc: Global) -> Result<Machine, Fail>
     ensures { IfOk result (λ machine. machine.journal ≡ []) }
 {
-    machine(
-        alloc,
-        "memory 1\n",
-        "board 1 number 5 table un plain choose first\n\
-         read 0\nwrite 0 1\nread 1\nread 2\nread 3\nwrite 0 2\nread 0\n\
-         board 2 number 9 table wt cached 1 1 choose first\n\
-         write 1 1\nread 0\nread 2\nread 3\nwrite 1 2\nread 1\n\
-         board 3 number 12 table cb cached 1 1 choose first\n\
-         write 2 1\nread 0\nread 1\nread 3\nwrite 2 2\nread 2\n\
-         board 4 number 7 table cb cached 1 1 choose first\n\
-         write 3 1\nread 0\nread 1\nread 2\nwrite 3 2\nread 3\nend\n",
-    )
+    machine(alloc, "memory 1\n", COUNTERS)
+}
+
+/// The text of the setup of four boards that count.
+pub fn counters_text(alloc: Global) -> Result<String, Fail> {
+    text(alloc, "memory 1\n", COUNTERS)
 }
 
 /// Whether the machine has a board of this place.

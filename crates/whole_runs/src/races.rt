@@ -40,7 +40,7 @@ fn open(alloc: Global, machine: Machine) -> Result<(Ruled<Racing>, Vec<BoardSeat
     }
 }
 
-/// The first seat is worked.
+/// Works the first seat.
 fn work_first<G: Gate, R: Wait>(
     rt: &R,
     shared: &Ruled<Racing>,
@@ -55,7 +55,7 @@ fn work_first<G: Gate, R: Wait>(
     work(rt, shared, &mut seats[0], gate)
 }
 
-/// All seats are worked.
+/// Works all seats.
 fn work_each<G: Gate + Sync, R: Threads + Wait + Sync>(
     rt: &R,
     shared: &Ruled<Racing>,
@@ -69,7 +69,7 @@ fn work_each<G: Gate + Sync, R: Threads + Wait + Sync>(
     work_all(rt, shared, seats.as_mut_slice(), gate);
 }
 
-/// The machine after the work of all its seats, with no round.
+/// The machine after all its seats were worked, with no round.
 fn worked<G: Gate + Sync, R: Threads + Wait + Sync>(
     rt: &R,
     alloc: Global,
@@ -149,7 +149,7 @@ fn printed(alloc: Global, machine: &Machine) -> Result<MemSink, Fail> {
     }
 }
 
-/// Whether what the run of a machine prints is replayed on the opening of its setup, and prints the same then.
+/// Whether the text that a machine's run prints is replayed from the opening of its setup, and prints the same then.
 fn is_replayed(alloc: Global, opening: Machine, machine: &Machine) -> Result<bool, Fail>
     requires { opening.journal ≡ [] }
 {
@@ -173,28 +173,28 @@ fn maker(event: &Event) -> BoardNo {
     }
 }
 
-/// How many events were made in turns of a board.
-fn events_of(machine: &Machine, board: BoardNo) -> u64 {
-    let mut events = 0u64;
-    for event in machine.journal() {
+/// How many of these events were made in turns of a board.
+fn made_by(events: &[Event], board: BoardNo) -> u64 {
+    let mut made = 0u64;
+    for event in events {
         if maker(event) == board {
-            events = events.saturating_add(1);
+            made = made.saturating_add(1);
         }
     }
-    events
+    made
 }
 
 /// Whether each of four boards came to a gate more often than it has events.
-fn came_more_often(machine: &Machine, calls: &Calls) -> bool {
+pub fn came_more_often(events: &[Event], calls: &Calls) -> bool {
     for place in 1..5u8 {
-        if calls.of(BoardNo(place)) <= events_of(machine, BoardNo(place)) {
+        if calls.of(BoardNo(place)) <= made_by(events, BoardNo(place)) {
             return false;
         }
     }
     true
 }
 
-/// Whether the machine is finished, and each of its four boards has read last what it last wrote.
+/// Whether the machine is finished, and the last read of each of its four boards gave the board's own last write.
 fn is_whole(machine: &Machine) -> bool {
     for place in 1..5u8 {
         if last_reply(machine, place) != Some(2) {
@@ -205,7 +205,7 @@ fn is_whole(machine: &Machine) -> bool {
 }
 
 /// Whether the first four events are the first transaction of board 1.
-fn begins_with_board_one(events: &[Event]) -> bool {
+pub fn begins_with_board_one(events: &[Event]) -> bool {
     match events {
         [
             Event::Raise { board },
@@ -230,7 +230,7 @@ fn a_race_runs_its_workers_beside_each_other(rt: HostRuntime) -> Result<(), Fail
     let gate = Meeting::new();
     let machine = raced(&rt, alloc, counters(alloc)?, &gate)?;
     assert!(rt; gate.have_met());
-    assert!(rt; came_more_often(&machine, &gate.calls));
+    assert!(rt; came_more_often(machine.journal(), &gate.calls));
     assert!(rt; is_whole(&machine));
     assert!(rt; is_replayed(alloc, counters(alloc)?, &machine)?);
     Ok(())
@@ -244,7 +244,7 @@ fn a_race_goes_by_the_turns_of_its_workers(rt: HostRuntime) -> Result<(), Fail> 
     let machine = raced(&rt, alloc, counters(alloc)?, &gate)?;
     assert!(rt; gate.was_seen());
     assert!(rt; begins_with_board_one(machine.journal()));
-    assert!(rt; came_more_often(&machine, &gate.calls));
+    assert!(rt; came_more_often(machine.journal(), &gate.calls));
     assert!(rt; is_whole(&machine));
     assert!(rt; is_replayed(alloc, counters(alloc)?, &machine)?);
     Ok(())
@@ -261,7 +261,7 @@ fn a_hundred_races_are_replayed(rt: HostRuntime) -> Result<(), Fail> {
     Ok(())
 }
 
-// Passes where there is memory, and where any allocation of `race` is refused.
+// Passes whether or not an allocation of `race` is refused.
 #[test]
 fn want_of_memory_hands_the_machine_back(rt: HostRuntime) -> Result<(), Fail> {
     let machine = counters(rt.alloc())?;

@@ -30,7 +30,7 @@ fn whole(alloc: Global, trace: &[u8]) -> Result<Result<usize, ReplayFault>, Fail
     Ok(told(replay(machine, trace)))
 }
 
-/// What a trace comes to in pieces of some size.
+/// What a trace comes to when it is fed in pieces of this size.
 fn in_pieces(alloc: Global, trace: &[u8], size: usize) -> Result<Result<usize, ReplayFault>, Fail> {
     let machine = writer_and_reader(alloc)?;
     let mut replay = Replay::start(machine);
@@ -55,7 +55,7 @@ fn comes_to(
     Ok(same)
 }
 
-/// Whether the run but for its last event, and then this, comes to what is wanted.
+/// Whether the run without its last event, followed by this text, comes to what is wanted.
 fn goes_on_to(
     alloc: Global,
     more: &str,

@@ -37,6 +37,17 @@ fn state(machine: &Machine, place: u8, line: u32) -> Option<State> {
     }
 }
 
+/// The words of a board's copy of a line, where it has one.
+fn words(machine: &Machine, place: u8, line: u32) -> Option<[u32; 4]> {
+    if !has_board(machine, place) {
+        return None;
+    }
+    match machine.copy(BoardNo(place), LineNo(line)) {
+        Some(copy) => Some(copy.1),
+        None => None,
+    }
+}
+
 /// The reply of the last access that a board has completed.
 pub fn last_reply(machine: &Machine, place: u8) -> Option<u32> {
     if !has_board(machine, place) {
@@ -114,7 +125,9 @@ fn an_owned_victim_is_flushed_first(rt: HostRuntime) -> Result<(), Fail> {
     assert_eq!(rt; memory(&machine, 0), Some(1));
     assert_eq!(rt; memory(&machine, 1), Some(0));
     assert_eq!(rt; state(&machine, 1, 1), Some(State::M));
+    assert_eq!(rt; words(&machine, 1, 1), Some([2, 0, 0, 0]));
     assert_eq!(rt; state(&machine, 1, 0), Some(State::I));
+    assert_eq!(rt; words(&machine, 1, 0), None);
     Ok(())
 }
 
