@@ -16,7 +16,7 @@ use crate::workers::work_all;
 use backplane::Machine;
 use fb_edge::Gate;
 use player::finish;
-use ruled_turn::{BoardSeat, OpenFault, Ruled};
+use ruled_turn::{BoardSeat, MOST_TURNS, OpenFault, Ruled};
 use std::alloc::Global;
 use std::sync::Wait;
 use std::thread::Threads;
@@ -69,7 +69,7 @@ fn work_each<G: Gate + Sync, R: Threads + Wait + Sync>(
 fn is_any_spent(seats: &[BoardSeat<Racing>]) -> bool
     ensures { IsFalse result → All (λ s. turns s < 2 ^ 40) seats.now }
 {
-    seats.iter().any(|seat| seat.turns() >= 1 << 40)
+    seats.iter().any(|seat| seat.turns() >= MOST_TURNS)
 }
 
 // The machine after the turns of all its seats.

@@ -5,6 +5,7 @@ ghost use Rattle.ruled_turn.specs.Entries.{GoesOn};
 ghost use Rattle.ruled_turn.specs.Seats.{number, seen, mine, turns};
 ghost use Rattle.race_run.specs.Workers.{IsSeat, IsDone, HasWorked, AreLater};
 
+use crate::bells::{Bells, Pace};
 use crate::racing::Racing;
 use backplane::Moved;
 use bus_signals::BoardNo;
@@ -14,11 +15,13 @@ use std::sync::Wait;
 use std::thread;
 use std::thread::Threads;
 
-// A turn of a seat. It answers whether the board's script is at its end.
+// A turn of a seat, with what its worker does after it. It answers whether the board's script is at its end.
 fn is_done_after_turn<R: Wait>(
     rt: &R,
     shared: &Ruled<Racing>,
     seat: &mut BoardSeat<Racing>,
+    bells: &Bells,
+    pace: &mut Pace,
 ) -> Result<bool, Spent>
     requires { IsSeat shared.now seat.old }
     ensures own { IsSeat shared.now seat.new }
@@ -30,7 +33,38 @@ fn is_done_after_turn<R: Wait>(
     ensures spent { IfErr result (λ e. (turns seat.new ≡ 2 ^ 40) × (e.turns ≡ 2 ^ 40)) }
     ensures spent_before { turns seat.old ≡ 2 ^ 40 → IsErr result }
 {
-    Ok(matches!(shared.turn(rt, seat)?, Moved::Finished))
+    let moved = shared.turn(rt, seat)?;
+    bells.after_turn(BoardNo(seat.number() as u8), moved, pace);
+    Ok(matches!(moved, Moved::Finished))
+}
+
+// What `work` does, with the bells of all boards.
+fn work_with<G: Gate, R: Wait>(
+    rt: &R,
+    shared: &Ruled<Racing>,
+    seat: &mut BoardSeat<Racing>,
+    gate: &G,
+    bells: &Bells,
+) -> Result<(), Spent>
+    requires { IsSeat shared.now seat.old }
+    ensures own { IsSeat shared.now seat.new }
+    ensures number { number seat.new ≡ number seat.old }
+    ensures seen { GoesOn (seen seat.old) (seen seat.new) }
+    ensures mine { GoesOn (mine seat.old) (mine seat.new) }
+    ensures ended { OnOk result (IsDone shared.now seat.new) }
+    ensures turned { OnOk result (turns seat.old < turns seat.new) }
+    ensures spent { IfErr result (λ e. (turns seat.new ≡ 2 ^ 40) × (e.turns ≡ 2 ^ 40)) }
+    ensures spent_before { turns seat.old ≡ 2 ^ 40 → IsErr result }
+{
+    let mut pace = Pace::new();
+    for _ in rt.forever() {
+        bells.before_turn(rt, BoardNo(seat.number() as u8), &mut pace);
+        gate.pass(BoardNo(seat.number() as u8), seat.turns());
+        if is_done_after_turn(rt, shared, seat, bells, &mut pace)? {
+            return Ok(());
+        }
+    }
+    unreachable!()
 }
 
 /// Makes the turns of a seat, and passes the gate before each. It goes on after each event and each wait, and ends where
@@ -56,13 +90,7 @@ pub fn work<G: Gate, R: Wait>(
     ensures spent { IfErr result (λ e. (turns seat.new ≡ 2 ^ 40) × (e.turns ≡ 2 ^ 40)) }
     ensures spent_before { turns seat.old ≡ 2 ^ 40 → IsErr result }
 {
-    for _ in rt.forever() {
-        gate.pass(BoardNo(seat.number() as u8), seat.turns());
-        if is_done_after_turn(rt, shared, seat)? {
-            return Ok(());
-        }
-    }
-    unreachable!()
+    work_with(rt, shared, seat, gate, &Bells::new())
 }
 
 /// Gives each seat a worker in a thread of its own, and returns when all of them have ended.
@@ -78,13 +106,14 @@ pub fn work_all<G: Gate + Sync, R: Threads + Wait + Sync>(
     ensures later { AreLater seats.old seats.new }
     ensures worked { All (HasWorked shared.now) seats.new }
 {
+    let bells = Bells::new();
     let threads = seats.len().max(1);
     thread::for_each_mut(
         rt,
         seats,
         threads,
         &|_, seat| {
-            let _ = work(rt, shared, seat, gate);
+            let _ = work_with(rt, shared, seat, gate, &bells);
         },
     );
 }

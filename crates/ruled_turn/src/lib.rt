@@ -23,9 +23,9 @@
 //! is the ticket whose turn it is, and `count` is the length of the history. A turn is five kinds of atomic step:
 //!
 //! 1. Draw: one is added to `ticket`. The seat has the ticket that stood there, and one turn more.
-//! 2. Look: `serving` is read. While it is another ticket, the seat yields its thread and looks again. The look that
-//!    finds its own ticket takes the slot, and from then on the value is the seat's alone: it is read out of the slot,
-//!    steps, and is written back into the slot, which nobody else can reach.
+//! 2. Look: `serving` is read. While it is another ticket, the seat waits and looks again. The look that finds its own
+//!    ticket takes the slot, and from then on the value is the seat's alone: it is read out of the slot, steps, and is
+//!    written back into the slot, which nobody else can reach.
 //! 3. Enter: one is added to `count` where the step made an entry, and nothing where it made none. With this step the
 //!    entry is in the history. The seat has seen the whole history, and its own entries have grown by this one.
 //! 4. Give: `serving` is read once more, and the slot goes back to the table.
@@ -33,6 +33,22 @@
 //!
 //! `new` begins with one seat that stands for all, and splits the seats off one by one. `close` joins the seats one by
 //! one, and closes the table with what is known of all of them.
+//!
+//! # How a seat waits
+//!
+//! Between two looks a seat only gives the processor a hint that it spins. After five thousand looks it sleeps on the word
+//! `serving` until that moves. So many looks take longer than it takes to wake a thread, so two seats that take turns go
+//! on without sleeping, even if one of them has just been woken.
+//!
+//! A seat that has left wakes those that sleep, if a ticket later than its own has been drawn. No wake is lost: a seat
+//! falls asleep only if `serving` still is what it read there, and a seat that draws its ticket after the one that left
+//! looked at `ticket` finds that `serving` has moved. A sleep compares only the low 32 bits of the word, so it also ends
+//! by itself after ten milliseconds.
+//!
+//! Few seats should be at their turns at a time: each ticket that is out moves the value to another thread. Whoever has
+//! more seats than that lets the others rest before they draw, as the crate race_run does.
+//!
+//! None of this changes the table, and no clause speaks of it.
 //!
 //! # The rule
 //!
@@ -62,5 +78,5 @@ mod tests;
 mod turned;
 mod view;
 
-pub use ruled::{BoardSeat, OpenFault, Ruled, Spent};
+pub use ruled::{BoardSeat, MOST_TURNS, OpenFault, Ruled, Spent};
 pub use turned::Turned;

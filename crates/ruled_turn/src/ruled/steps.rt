@@ -8,10 +8,39 @@ ghost use Rattle.ruled_turn.specs.Seats.{given};
 use super::{COUNT, Place, Ruled, SERVING, TICKET, VALUE};
 use crate::plays::{Draw, Enter, Give, Leave, Look};
 use crate::turned::Turned;
+use std::hint;
 use std::sync::Wait;
-use std::thread;
+use std::time::Duration;
+
+// A seat looks so often before it sleeps. That is longer than it takes to wake a thread, or else two seats that take
+// turns could put each other to sleep again and again.
+const MOST_LOOKS: u32 = 5_000;
+
+// A seat that sleeps looks again after so many milliseconds even if nobody wakes it.
+const LONGEST_SLEEP: u64 = 10;
 
 impl<M: Turned> Ruled<M> {
+    // Waits after a look that found another ticket served, and says how many looks were made since the last sleep. It
+    // sleeps only while that ticket is still served.
+    fn wait<R: Wait>(&self, rt: &R, serving: u64, looks: u32) -> u32 {
+        if looks < MOST_LOOKS {
+            hint::spin_loop();
+            return looks + 1;
+        }
+        let expected = (serving % (1 << 32)) as u32;
+        self.table.shared.park_timeout(rt, SERVING, expected, Duration::from_millis(LONGEST_SLEEP));
+        0
+    }
+
+    // Wakes the seats that sleep, after this ticket has left. If no later ticket has been drawn by now, whoever draws the
+    // next one sees that this one has left.
+    fn wake(&self, ticket: u64) {
+        let desk = &self.table.shared;
+        if desk.peek(TICKET).wrapping_sub(ticket) > 1 {
+            desk.wake_all(SERVING);
+        }
+    }
+
     // Looks until it is the ticket's turn, and takes the value out of the slot.
     fn take<R: Wait>(&self, rt: &R, place: &mut Place<M>, ticket: u64) -> M
         requires table { place.old.table_id ≡ self.now.table.shared.table_id }
@@ -23,11 +52,13 @@ impl<M: Turned> Ruled<M> {
         ensures mine { mine_of place.old.me.0 ≡ of (number_of place.old.me.0) (M.entries result) }
     {
         let desk = &self.table.shared;
+        let mut looks = 0u32;
         for _ in rt.forever() {
-            if desk.load::<Look<M>>(place, SERVING) == ticket {
+            let serving = desk.load::<Look<M>>(place, SERVING);
+            if serving == ticket {
                 return desk.exchange(place, VALUE, None).unwrap();
             }
-            thread::yield_now();
+            looks = self.wait(rt, serving, looks);
         }
         unreachable!()
     }
@@ -57,6 +88,7 @@ impl<M: Turned> Ruled<M> {
         desk.fetch_add::<Enter<M>>(place, COUNT, grown);
         desk.load::<Give>(place, SERVING);
         desk.fetch_add::<Leave>(place, SERVING, 1);
+        self.wake(ticket);
         answer
     }
 }

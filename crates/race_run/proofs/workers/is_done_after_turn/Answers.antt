@@ -10,8 +10,8 @@ returns-in-Finished-clause-ended g c = λ done.
     let before = c.args.seat.now in
     let after = c.turn.new.seat in
     let setup = setup_of c.args.shared.now in
-    let answer = c.in_ok-turn.field-0 in
-    let turned = c.in_ok-turn.ensures.turned in
+    let answer = c.in_ok-moved.moved in
+    let turned = c.in_ok-moved.ensures.turned in
     record {
       ended =
           subst (λ (n : ℕ). IsAtEnd setup (seen after) n) (sym c.turn.ensures.number)

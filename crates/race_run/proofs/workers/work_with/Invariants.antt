@@ -2,7 +2,7 @@ use Rattle.std.proofs.Common.{◌≡◌, ◌≤◌}
 use Rattle.ruled_turn.specs.Entries.{GoesOn}
 use Rattle.ruled_turn.specs.Seats.{number, seen, mine, turns}
 use Rattle.race_run.specs.Workers.{IsSeat}
-use Rattle.race_run.proofs.workers.work.Given as goal
+use Rattle.race_run.proofs.workers.work_with.Given as goal
 
 abbrev pub invariant-loop : goal.invariant-loop
 invariant-loop g l = record {
