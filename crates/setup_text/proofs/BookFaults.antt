@@ -249,7 +249,7 @@ ends_early (inside ts t) end f good e =
 
 -- ---- all lines
 
-lines_fault : (p : BookPart) (ls : List Line) (end : ℕ) (f : Fault) → Good p → book_lines (mode_of p) ls end ≡ Err f → FaultBehind book_grammar (rows_of p) (lines_places ls end) f.line f.kind
+pub lines_fault : (p : BookPart) (ls : List Line) (end : ℕ) (f : Fault) → Good p → book_lines (mode_of p) ls end ≡ Err f → FaultBehind book_grammar (rows_of p) (lines_places ls end) f.line f.kind
 unfolding book_lines
 lines_fault p [] end f good e = ends_early p end f good e
 lines_fault p (l ∷ ls) end f good e = go (book_line (mode_of p) l.words) refl e (λ q h k. lines_fault q ls end f h k)

@@ -32,3 +32,5 @@ pub mod WrittenSetup
 pub mod LinesAgain
 pub mod RowsAgain
 pub mod ReadAgain
+pub mod OneFault
+pub mod OnlyFaults

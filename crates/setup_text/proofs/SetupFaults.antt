@@ -38,7 +38,7 @@ use Rattle.setup_text.proofs.BodyFaults.{body_stops, body_passes}
 
 -- ---- the first line
 
-first_breaks : (words : Words) (here : List ℕ) (k : SetupKind) → BreaksSetup [] words here k → (words ≡ codes "memory" ∷ []) × JudgedLines here k
+pub first_breaks : (words : Words) (here : List ℕ) (k : SetupKind) → BreaksSetup [] words here k → (words ≡ codes "memory" ∷ []) × JudgedLines here k
 first_breaks words here k (inl (e, ws, j)) = (ws, j)
 first_breaks words here k (inr (inl (r, hr, e, j))) = absurd cc
 first_breaks words here k (inr (inr (r, hr, j))) = absurd (none j.open_table j.parts)
@@ -341,7 +341,7 @@ ends_early (closed s) end f good e = absurd cc
 
 -- ---- all lines
 
-lines_fault : (p : Part) (ls : List Line) (end : ℕ) (f : Fault) → Good p → lines_at (mode_of p) ls end ≡ Err f → FaultBehind setup_grammar (rows_of p) (lines_places ls end) f.line f.kind
+pub lines_fault : (p : Part) (ls : List Line) (end : ℕ) (f : Fault) → Good p → lines_at (mode_of p) ls end ≡ Err f → FaultBehind setup_grammar (rows_of p) (lines_places ls end) f.line f.kind
 unfolding lines_at
 lines_fault p [] end f good e = ends_early p end f good e
 lines_fault p (l ∷ ls) end f good e = go (line_at (mode_of p) l.words) refl e (λ q h k. lines_fault q ls end f h k)

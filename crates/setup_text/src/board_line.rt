@@ -14,7 +14,7 @@ use class_words::is;
 use fb_text::Scan;
 use table_check::{BoardSpec, Choose, Shape};
 
-/// How a board chooses.
+/// Reads how a board chooses.
 #[tactic(auto, unfolding(crate::specs::Reading::choose_at))]
 fn choose(scan: &mut Scan) -> Result<Choose, SetupFault>
     ensures value { Gives (λ c. (c, scan.new.words)) result scan.old.line (choose_at scan.old.words) }
@@ -36,7 +36,7 @@ fn choose(scan: &mut Scan) -> Result<Choose, SetupFault>
     Err(bad(scan, SetupKind::UnknownWord))
 }
 
-/// Sets and ways, after the word `cached`.
+/// Reads the sets and ways after the word `cached`.
 #[tactic(auto, unfolding(crate::specs::Reading::frames_at))]
 fn frames(scan: &mut Scan) -> Result<Shape, SetupFault>
     ensures value { Gives (λ s. (s, scan.new.words)) result scan.old.line (frames_at scan.old.words) }
@@ -55,7 +55,7 @@ fn frames(scan: &mut Scan) -> Result<Shape, SetupFault>
     })
 }
 
-/// The cache of a board; `plain` tells whether its table reaches no state but I.
+/// Reads the cache of a board. `plain` says whether its table reaches no state but I.
 #[tactic(auto, unfolding(crate::specs::Reading::shape_at))]
 fn shape(scan: &mut Scan, plain: bool) -> Result<Shape, SetupFault>
     ensures value { Gives (λ s. (s, scan.new.words)) result scan.old.line (shape_at plain scan.old.words) }
@@ -77,7 +77,7 @@ fn shape(scan: &mut Scan, plain: bool) -> Result<Shape, SetupFault>
     Err(bad(scan, SetupKind::UnknownWord))
 }
 
-/// The place after so many boards.
+/// Reads the place of a board, which must be the next one after so many boards.
 #[tactic(auto, unfolding(crate::specs::Reading::place_at))]
 fn place(scan: &mut Scan, boards: u64) -> Result<(), SetupFault>
     requires { boards ≤ 16 }
@@ -98,7 +98,7 @@ fn has_number(boards: &[BoardSpec], number: u16) -> bool
     boards.iter().any(|board| board.number == number)
 }
 
-/// A number that no board has.
+/// Reads a number that no board has yet.
 #[tactic(auto, unfolding(crate::specs::Reading::board_number_at))]
 fn board_number(scan: &mut Scan, boards: &[BoardSpec]) -> Result<u16, SetupFault>
     ensures value { Gives (λ n. (n, scan.new.words)) result scan.old.line (board_number_at boards.now scan.old.words) }
@@ -114,7 +114,7 @@ fn board_number(scan: &mut Scan, boards: &[BoardSpec]) -> Result<u16, SetupFault
     Ok(number)
 }
 
-/// A board line after its first word, up to its number.
+/// Reads a board line from its place to its number.
 #[tactic(auto, unfolding(crate::specs::Reading::board_front))]
 fn front(scan: &mut Scan, boards: &[BoardSpec]) -> Result<u16, SetupFault>
     requires { length boards.now ≤ 16 }
@@ -129,7 +129,7 @@ fn front(scan: &mut Scan, boards: &[BoardSpec]) -> Result<u16, SetupFault>
     board_number(scan, boards)
 }
 
-/// The place of a table that is named, and whether it reaches no state but I.
+/// Reads the name of a table. Answers its place, and whether the table reaches no state but I.
 #[tactic(auto, unfolding(crate::specs::Reading::table_name_at))]
 fn table_name(scan: &mut Scan, tables: &Tables) -> Result<(u32, bool), SetupFault>
     ensures value { Gives (λ t. (t.0, t.1, scan.new.words)) result scan.old.line (table_name_at tables.now scan.old.words) }
@@ -143,7 +143,7 @@ fn table_name(scan: &mut Scan, tables: &Tables) -> Result<(u32, bool), SetupFaul
     }
 }
 
-/// The word `table` and the name of a table.
+/// Reads the word `table` and the name of a table.
 #[tactic(auto, unfolding(crate::specs::Reading::board_table))]
 fn table(scan: &mut Scan, tables: &Tables) -> Result<(u32, bool), SetupFault>
     ensures value { Gives (λ t. (t.0, t.1, scan.new.words)) result scan.old.line (board_table tables.now scan.old.words) }
@@ -154,7 +154,7 @@ fn table(scan: &mut Scan, tables: &Tables) -> Result<(u32, bool), SetupFault>
     table_name(scan, tables)
 }
 
-/// The chooser, and the end of the line.
+/// Reads the chooser and the end of the line.
 #[tactic(auto, unfolding(crate::specs::Reading::board_back))]
 fn back(scan: &mut Scan) -> Result<Choose, SetupFault>
     ensures value { Gives (λ c. c) result scan.old.line (board_back scan.old.words) }
@@ -166,7 +166,7 @@ fn back(scan: &mut Scan) -> Result<Choose, SetupFault>
     Ok(choose)
 }
 
-/// A board line, after its first word.
+/// Reads a board line after its first word.
 #[tactic(auto, unfolding(crate::specs::Reading::board_line))]
 pub fn board(scan: &mut Scan, draft: &Draft) -> Result<BoardSpec, SetupFault>
     ensures value { Gives (λ b. b) result scan.old.line (board_line draft.now scan.old.words) }

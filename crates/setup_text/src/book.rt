@@ -17,7 +17,7 @@ use class_relation::Table;
 use fb_text::Scan;
 use std::alloc::Global;
 
-/// One more table.
+/// Reads one more table.
 fn table_lines(alloc: Global, scan: &mut Scan, tables: &mut Tables) -> Result<(), SetupFault>
     ensures exact { GoesOn book_lines (λ _. BookMode.whole tables.new) result scan.new (then_lines book_lines scan.old (book_head tables.old scan.old.words)) }
     ensures shorter { OnOk result (length scan.new.lines ≤ length scan.old.lines) }
@@ -46,11 +46,11 @@ fn book(alloc: Global, bytes: &[u8]) -> Result<Vec<Table>, SetupFault>
 /// Reads a text of one or more tables.
 pub fn read_book(alloc: Global, bytes: &[u8]) -> Result<Vec<Table>, SetupFault>
     requires { length bytes.now < 2 ^ 31 }
-    // What is read is spelled so.
+    // The text spells the tables that were read.
     ensures spelled { IfOk result (λ v. IsBook bytes.now v.items) }
-    // What is spelled so is read.
+    // Tables that the text spells are read.
     ensures only { (tables : List TableText) → BookStands tables → items (text_places bytes.now) ≡ book_items tables → IsReadAs (λ v. v.items) result (tables_of tables) }
-    // A fault is that of the first place at fault, with its line and its kind.
+    // A fault has the line and the kind of the first place at fault.
     ensures first { IfErr result (IsFirstFault book_grammar bytes.now) }
     // Which tables or which fault it is.
     ensures exact { Answers (λ v. v.items) result (book_at (unread bytes.now)) }

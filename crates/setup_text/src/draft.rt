@@ -1,4 +1,4 @@
-//! A setup while its text is read.
+//! A setup while its text is being read.
 
 ghost use Rattle.std.specs.Prelude.{◌≡◌, ◌<◌, ◌≤◌, ◌*◌, false, map, length, None, OnOk, OnErr, IfOk};
 ghost use Rattle.bus_signals.specs.Accesses.{address_of};
@@ -16,7 +16,7 @@ use std::alloc::Global;
 use std::marker::Model;
 use table_check::BoardSpec;
 
-/// The parts of a setup that were read so far. Contracts see it as a setup, which may have no boards yet.
+/// The parts of a setup read so far. Contracts see it as a setup, which may have no boards yet.
 #[derive(Drop)]
 pub struct Draft {
     alloc: Global,
@@ -55,7 +55,7 @@ fn add_access(scripts: &mut Vec<Vec<Access>>, access: Access) -> Result<(), NoMe
 }
 
 impl Draft {
-    /// A setup of so many lines of memory, all of 0, and nothing else.
+    /// A setup with so many lines of memory, all 0, and nothing else.
     pub fn new(alloc: Global, lines: u32) -> Result<Draft, NoMemory>
         requires low { 1 ≤ lines }
         requires high { lines ≤ 4096 }
@@ -141,7 +141,7 @@ impl Draft {
         Ok(())
     }
 
-    /// The setup, when all was read.
+    /// The setup, once all of it was read.
     pub fn finish(self) -> Setup
         requires { 1 ≤ length self.boards }
         ensures { result ≡ self }

@@ -1,8 +1,8 @@
-//! What can be wrong in a text of tables, a setup or a schedule.
+//! The faults of a text of tables, a setup or a schedule.
 
 use no_memory::NoMemory;
 
-/// What there is too much or too little of.
+/// What a text has too many or too few of.
 #[derive(Clone, Copy, Debug, PartialEq, Eq)]
 pub enum LimitOf {
     /// Lines of memory.
@@ -20,9 +20,9 @@ pub enum LimitOf {
 /// The kind of a fault.
 #[derive(Clone, Copy, Debug, PartialEq, Eq)]
 pub enum SetupKind {
-    /// A word that cannot stand in its place, or none where one is wanted.
+    /// A word that cannot stand here, or no word where one is needed.
     UnknownWord,
-    /// No number where one is wanted, one out of its range, or a place that is not the next.
+    /// No number where one is needed, a number out of range, or a place that is not the next one.
     Number,
     /// An address that memory lacks.
     Address,
@@ -30,15 +30,15 @@ pub enum SetupKind {
     TwiceName,
     /// An earlier board has the number.
     TwiceNumber,
-    /// The cell was given before.
+    /// The cell was already given.
     TwiceCell,
-    /// The line gives its cell no alternative.
+    /// The line gives its cell no alternatives.
     NoCell,
     /// No table has the name.
     NoTable,
     /// The table of a plain board reaches a state other than I.
     NoFrames,
-    /// Too many or too few, with how many there are.
+    /// Too many or too few, and how many there are.
     Limit { of: LimitOf, count: u64 },
     /// The text ends before its `end` line.
     NoEnd,

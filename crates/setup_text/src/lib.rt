@@ -5,6 +5,7 @@ mod board_line;
 mod book;
 mod draft;
 mod fault;
+mod laws;
 mod names;
 mod reading;
 mod schedule;
@@ -15,6 +16,7 @@ mod writing;
 
 pub use book::read_book;
 pub use fault::{LimitOf, SetupFault, SetupKind};
+pub use laws::{book_faults_are_first, schedule_faults_are_first, setup_faults_are_first};
 pub use no_memory::NoMemory;
 pub use reading::read_setup;
 pub use schedule::read_schedule;

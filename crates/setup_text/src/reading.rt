@@ -24,7 +24,7 @@ use fb_text::Scan;
 use setup::Setup;
 use std::alloc::Global;
 
-/// A `word` line, after its first word.
+/// Reads a `word` line after its first word.
 fn word_line(scan: &mut Scan, draft: &mut Draft) -> Result<(), SetupFault>
     ensures value { Gives (λ _. Mode.body draft.new) result scan.old.line (word_line draft.old scan.old.words) }
     ensures stays { StaysOnLine scan.old scan.new }
@@ -37,7 +37,7 @@ fn word_line(scan: &mut Scan, draft: &mut Draft) -> Result<(), SetupFault>
     Ok(())
 }
 
-/// A table, after its first word.
+/// Reads a table after its first word.
 fn table_lines(alloc: Global, scan: &mut Scan, draft: &mut Draft) -> Result<(), SetupFault>
     ensures exact { GoesOn lines_at (λ _. Mode.body draft.new) result scan.new (then_lines lines_at scan.old (table_head draft.old scan.old.words)) }
     ensures shorter { OnOk result (length scan.new.lines ≤ length scan.old.lines) }
@@ -50,7 +50,7 @@ fn table_lines(alloc: Global, scan: &mut Scan, draft: &mut Draft) -> Result<(), 
     Ok(())
 }
 
-/// A board line, after its first word.
+/// Reads a board line after its first word.
 fn board_line(scan: &mut Scan, draft: &mut Draft) -> Result<(), SetupFault>
     ensures value { Gives (λ _. Mode.body draft.new) result scan.old.line (board_added draft.old scan.old.words) }
     ensures stays { StaysOnLine scan.old scan.new }
@@ -63,7 +63,7 @@ fn board_line(scan: &mut Scan, draft: &mut Draft) -> Result<(), SetupFault>
     Ok(())
 }
 
-/// An access, after its first word.
+/// Reads an access after its first word.
 fn access_line(scan: &mut Scan, draft: &mut Draft, event: LocalEvent) -> Result<(), SetupFault>
     ensures value { Gives (λ _. Mode.body draft.new) result scan.old.line (access_read draft.old event scan.old.words) }
     ensures stays { StaysOnLine scan.old scan.new }
@@ -79,7 +79,7 @@ fn access_line(scan: &mut Scan, draft: &mut Draft, event: LocalEvent) -> Result<
     Ok(())
 }
 
-/// The `end` line, after its first word.
+/// Reads the `end` line after its first word.
 fn end_line(scan: &mut Scan, draft: &Draft) -> Result<(), SetupFault>
     ensures value { Gives (λ _. Mode.ended draft.now) result scan.old.line (end_line draft.now scan.old.words) }
     ensures some { OnOk result (1 ≤ length draft.now.boards) }
@@ -91,7 +91,7 @@ fn end_line(scan: &mut Scan, draft: &Draft) -> Result<(), SetupFault>
     line_end(scan)
 }
 
-/// One line or one table, after its first word, which is not `end`.
+/// Reads one line or one table after its first word, which is not `end`.
 #[tactic(auto, unfolding(crate::specs::Reading::body_line))]
 fn part(alloc: Global, scan: &mut Scan, draft: &mut Draft, word: &[u8]) -> Result<(), SetupFault>
     requires { bytes_eq word.now (codes "end") ≡ false }
@@ -113,7 +113,7 @@ fn part(alloc: Global, scan: &mut Scan, draft: &mut Draft, word: &[u8]) -> Resul
     }
 }
 
-/// One line or one table, and whether it is the `end` line.
+/// Reads one line or one table. Answers whether it was the `end` line.
 #[tactic(auto, unfolding(crate::specs::Reading::body_line))]
 fn line(alloc: Global, scan: &mut Scan, draft: &mut Draft) -> Result<bool, SetupFault>
     ensures exact { GoesOn lines_at (mode_after draft.new) result scan.new (then_lines lines_at scan.old (body_line draft.old scan.old.words)) }
@@ -131,7 +131,7 @@ fn line(alloc: Global, scan: &mut Scan, draft: &mut Draft) -> Result<bool, Setup
     Ok(false)
 }
 
-/// The `memory` line.
+/// Reads the words of the `memory` line.
 #[tactic(auto, unfolding(crate::specs::Reading::first_line))]
 fn memory_rest(alloc: Global, scan: &mut Scan) -> Result<Draft, SetupFault>
     ensures value { Gives (λ d. Mode.body d) result scan.old.line (first_line scan.old.words) }
@@ -143,7 +143,7 @@ fn memory_rest(alloc: Global, scan: &mut Scan) -> Result<Draft, SetupFault>
     Ok(draft)
 }
 
-/// The first line.
+/// Reads the first line, which is the `memory` line.
 fn memory_line(alloc: Global, scan: &mut Scan) -> Result<Draft, SetupFault>
     ensures { GoesOn lines_at (λ d. Mode.body d) result scan.new (setup_at scan.old) }
 {
@@ -153,7 +153,7 @@ fn memory_line(alloc: Global, scan: &mut Scan) -> Result<Draft, SetupFault>
     memory_rest(alloc, scan)
 }
 
-/// No line with words is left.
+/// Checks that no line with words is left, and gives the setup.
 fn text_end(scan: &mut Scan, draft: Draft) -> Result<Setup, SetupFault>
     requires { 1 ≤ length draft.boards }
     ensures { Answers (λ s. s) result (lines_at (Mode.ended draft) scan.old.lines scan.old.end) }
@@ -181,13 +181,13 @@ fn setup(alloc: Global, bytes: &[u8]) -> Result<Setup, SetupFault>
 /// Reads a setup.
 pub fn read_setup(alloc: Global, bytes: &[u8]) -> Result<Setup, SetupFault>
     requires { length bytes.now < 2 ^ 31 }
-    // What is read is spelled so.
+    // The text spells the setup that was read.
     ensures spelled { IfOk result (IsSetup bytes.now) }
-    // What is spelled so is read.
+    // A setup that the text spells is read.
     ensures only { (s : SetupText) → SetupStands s → items (text_places bytes.now) ≡ setup_items s → IsReadAs (λ x. x) result (setup_of s) }
-    // A setup that was written is read again. Only a word after it is at fault.
+    // A setup that was written is read back. Only a word after it is at fault.
     ensures written { (s : Setup) (rest : List ℕ) → IsWholeSetup s → bytes.now ≡ written_setup s ++ rest → IsReadBefore (lines_behind s rest) result s }
-    // A fault is that of the first place at fault, with its line and its kind.
+    // A fault has the line and the kind of the first place at fault.
     ensures first { IfErr result (IsFirstFault setup_grammar bytes.now) }
     // Which setup or which fault it is.
     ensures exact { Answers (λ s. s) result (setup_at (unread bytes.now)) }

@@ -15,7 +15,7 @@ use crate::words::bad;
 use fb_text::{Scan, number_within};
 use std::alloc::Global;
 
-/// The place of one of so many boards.
+/// Reads a word as the place of one of so many boards.
 fn place(scan: &Scan, word: &[u8], boards: u8) -> Result<u8, SetupFault>
     ensures { Gives (λ p. p) result scan.now.line (place_in boards word.now) }
 {
@@ -25,7 +25,7 @@ fn place(scan: &Scan, word: &[u8], boards: u8) -> Result<u8, SetupFault>
     }
 }
 
-/// The places on a line.
+/// Reads the places on a line.
 fn places(scan: &mut Scan, boards: u8, turns: &mut Vec<u8>) -> Result<(), SetupFault>
     ensures value { Gives (λ _. turns.new.items) result scan.old.line (places_on boards turns.old.items scan.old.words) }
     ensures stays { StaysOnLine scan.old scan.new }
@@ -51,18 +51,18 @@ fn schedule(alloc: Global, bytes: &[u8], boards: u8) -> Result<Vec<u8>, SetupFau
     Ok(turns)
 }
 
-/// Reads a schedule: places of so many boards, on any lines.
+/// Reads a schedule: the places of boards, one or more to a line.
 pub fn read_schedule(alloc: Global, bytes: &[u8], boards: u8) -> Result<Vec<u8>, SetupFault>
     requires short { length bytes.now < 2 ^ 31 }
     requires low { 1 ≤ boards }
     requires high { boards ≤ 16 }
-    // What is read is spelled so.
+    // The text spells the places that were read.
     ensures spelled { IfOk result (λ v. IsSchedule boards bytes.now v.items) }
-    // What is spelled so is read.
+    // Places that the text spells are read.
     ensures only { (lines : List (List ℕ)) → ScheduleFits boards lines → items (text_places bytes.now) ≡ schedule_items lines → IsReadAs (λ v. v.items) result (turns_of lines) }
     // Each is the place of a board.
     ensures places { IfOk result (λ v. ArePlaces boards v.items) }
-    // A fault is that of the first place at fault, with its line and its kind.
+    // A fault has the line and the kind of the first place at fault.
     ensures first { IfErr result (IsFirstFault (schedule_grammar boards) bytes.now) }
     // Which places or which fault it is.
     ensures exact { Answers (λ v. v.items) result (schedule_at boards (unread bytes.now)) }

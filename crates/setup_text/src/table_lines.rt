@@ -1,4 +1,4 @@
-//! Reading a table in a text of several.
+//! Reading a table in a text that has several.
 
 ghost use Rattle.std.specs.Prelude.{◌≡◌, ◌<◌, ◌≤◌, map, length, IfOk, OnOk, None};
 ghost use Rattle.table_text.specs.Reading.{StaysOnLine, table_at};
@@ -14,7 +14,7 @@ use fb_text::Scan;
 use std::alloc::Global;
 use table_text::{TableFault, TableKind, read_table};
 
-/// The kind of a table's fault.
+/// What the fault of a table is called in a setup.
 fn kind_of(kind: TableKind) -> SetupKind
     ensures { result ≡ kind_of kind }
 {
@@ -30,7 +30,7 @@ fn kind_of(kind: TableKind) -> SetupKind
     }
 }
 
-/// The name of one more table.
+/// Reads the name of one more table.
 #[tactic(auto, unfolding(crate::specs::Reading::head_name))]
 fn new_name(scan: &mut Scan, tables: &Tables) -> Result<Name, SetupFault>
     ensures value { Gives (λ n. (n, scan.new.words)) result scan.old.line (head_name tables.now scan.old.words) }
@@ -48,7 +48,7 @@ fn new_name(scan: &mut Scan, tables: &Tables) -> Result<Name, SetupFault>
     Ok(name)
 }
 
-/// The rest of a table, after its name.
+/// Reads the rest of a table after its name.
 fn rest(alloc: Global, scan: &mut Scan, name: Name) -> Result<Table, SetupFault>
     ensures exact { GivesTable result scan.new (as_setup_fault (table_at name scan.old)) }
     ensures shorter { OnOk result (length scan.new.lines ≤ length scan.old.lines) }
@@ -64,7 +64,7 @@ fn rest(alloc: Global, scan: &mut Scan, name: Name) -> Result<Table, SetupFault>
     }
 }
 
-/// One more table, after the word `table`.
+/// Reads one more table after the word `table`.
 #[tactic(auto, unfolding(crate::specs::Reading::whole_table))]
 pub fn table(alloc: Global, scan: &mut Scan, tables: &Tables) -> Result<Table, SetupFault>
     ensures exact { GivesTable result scan.new (whole_table tables.now scan.old) }

@@ -1,27 +1,27 @@
+//! Texts that are read, and texts with a fault.
+
 use super::*;
+use std::alloc::Global;
 use std::test::*;
 
-const UNCACHED: &str = "table un\nI read = I urd\nI write = I uwr\nI pass = I\nI flush = I\nend\n";
-
-fn line_and_kind(fault: SetupFault) -> (u32, SetupKind) {
-    match fault {
-        SetupFault::Bad { line, kind } => (line, kind),
-        SetupFault::NoMemory => (0, SetupKind::NoEnd),
-    }
-}
-
-fn setup_fault(rt: &HostRuntime, text: &str) -> (u32, SetupKind) {
+/// What a text is read as: a setup, or its fault.
+fn read_as_setup(alloc: Global, text: &str) -> Result<Result<(), SetupFault>, Fail> {
     if text.len() >= 100_000 {
-        return (0, SetupKind::NoEnd);
+        return Err(Fail::from("a long text"));
     }
-    match read_setup(rt.alloc(), text.as_bytes()) {
-        Ok(_) => (0, SetupKind::UnknownWord),
-        Err(fault) => line_and_kind(fault),
+    match read_setup(alloc, text.as_bytes()) {
+        Ok(_) => Ok(Ok(())),
+        Err(fault) => Ok(Err(fault)),
     }
 }
 
 fn limit(of: LimitOf, count: u64) -> SetupKind {
     SetupKind::Limit { of, count }
+}
+
+/// A fault on a line.
+fn bad(line: u32, kind: SetupKind) -> Result<usize, SetupFault> {
+    Err(SetupFault::Bad { line, kind })
 }
 
 #[test]
@@ -128,65 +128,64 @@ fn setups_with_a_fault(rt: HostRuntime) -> Result<(), Fail> {
             SetupKind::UnknownWord,
         ),
     ];
-    for row in rows {
-        assert_eq!(rt; setup_fault(&rt, row.0), (row.1, row.2));
+    for (text, line, kind) in rows {
+        let read = read_as_setup(rt.alloc(), text)?;
+        assert_eq!(rt; read, Err(SetupFault::Bad { line, kind }), "{text}");
     }
     Ok(())
 }
 
-fn book_fault(rt: &HostRuntime, text: &str) -> (u32, SetupKind) {
+/// How many tables a text has, or its fault.
+fn tables_in(alloc: Global, text: &str) -> Result<Result<usize, SetupFault>, Fail> {
     if text.len() >= 100_000 {
-        return (0, SetupKind::NoEnd);
+        return Err(Fail::from("a long text"));
     }
-    match read_book(rt.alloc(), text.as_bytes()) {
-        Ok(_) => (0, SetupKind::UnknownWord),
-        Err(fault) => line_and_kind(fault),
+    match read_book(alloc, text.as_bytes()) {
+        Ok(tables) => Ok(Ok(tables.len())),
+        Err(fault) => Ok(Err(fault)),
     }
 }
 
 #[test]
-fn tables_with_a_fault(rt: HostRuntime) -> Result<(), Fail> {
+fn texts_of_tables_are_read(rt: HostRuntime) -> Result<(), Fail> {
     let rows = [
-        ("", 1, SetupKind::NoEnd),
-        ("end\n", 1, SetupKind::UnknownWord),
-        ("table x\n", 2, SetupKind::NoEnd),
-        ("table x\nI read =\n", 2, SetupKind::NoCell),
-        ("table x\nend\ntable x\n", 3, SetupKind::TwiceName),
-        ("table x\nend\nmemory 1\n", 3, SetupKind::UnknownWord),
-        ("table x\nend\ntable y\nend\n", 0, SetupKind::UnknownWord),
+        ("", bad(1, SetupKind::NoEnd)),
+        ("end\n", bad(1, SetupKind::UnknownWord)),
+        ("table x\n", bad(2, SetupKind::NoEnd)),
+        ("table x\nI read =\n", bad(2, SetupKind::NoCell)),
+        ("table x\nend\ntable x\n", bad(3, SetupKind::TwiceName)),
+        ("table x\nend\nmemory 1\n", bad(3, SetupKind::UnknownWord)),
+        ("table x\nend\ntable y\nend\n", Ok(2)),
     ];
-    for row in rows {
-        assert_eq!(rt; book_fault(&rt, row.0), (row.1, row.2));
+    for (text, wanted) in rows {
+        assert_eq!(rt; tables_in(rt.alloc(), text)?, wanted, "{text}");
     }
     Ok(())
 }
 
-// How many places of two boards a text has, or its fault.
-fn places(rt: &HostRuntime, text: &str) -> (usize, u32, SetupKind) {
+/// How many places of two boards a text has, or its fault.
+fn places_in(alloc: Global, text: &str) -> Result<Result<usize, SetupFault>, Fail> {
     if text.len() >= 100_000 {
-        return (0, 0, SetupKind::NoEnd);
+        return Err(Fail::from("a long text"));
     }
-    match read_schedule(rt.alloc(), text.as_bytes(), 2) {
-        Ok(places) => (places.len(), 0, SetupKind::UnknownWord),
-        Err(fault) => {
-            let at = line_and_kind(fault);
-            (0, at.0, at.1)
-        }
+    match read_schedule(alloc, text.as_bytes(), 2) {
+        Ok(places) => Ok(Ok(places.len())),
+        Err(fault) => Ok(Err(fault)),
     }
 }
 
 #[test]
 fn schedules_are_read(rt: HostRuntime) -> Result<(), Fail> {
     let rows = [
-        ("", 0, 0, SetupKind::UnknownWord),
-        ("1 2\n# none\n2", 3, 0, SetupKind::UnknownWord),
-        ("1 3\n", 0, 1, SetupKind::Number),
-        ("1\n2 2\n0\n", 0, 3, SetupKind::Number),
-        ("01\n", 0, 1, SetupKind::Number),
-        ("1 x\n", 0, 1, SetupKind::Number),
+        ("", Ok(0)),
+        ("1 2\n# none\n2", Ok(3)),
+        ("1 3\n", bad(1, SetupKind::Number)),
+        ("1\n2 2\n0\n", bad(3, SetupKind::Number)),
+        ("01\n", bad(1, SetupKind::Number)),
+        ("1 x\n", bad(1, SetupKind::Number)),
     ];
-    for row in rows {
-        assert_eq!(rt; places(&rt, row.0), (row.1, row.2, row.3));
+    for (text, wanted) in rows {
+        assert_eq!(rt; places_in(rt.alloc(), text)?, wanted, "{text}");
     }
     Ok(())
 }

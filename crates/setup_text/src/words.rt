@@ -1,4 +1,4 @@
-//! Reading the words of a line, one after the other.
+//! Reading a line word by word.
 
 ghost use Rattle.std.specs.Prelude.{◌≡◌, ◌<◌, ◌≤◌, ◌*◌, IfOk, OnOk};
 ghost use Rattle.fb_text.specs.Lines.{is_empty};
@@ -29,7 +29,7 @@ pub fn limit(scan: &Scan, of: LimitOf, count: u64) -> SetupFault
     bad(scan, SetupKind::Limit { of, count })
 }
 
-/// A number of at most `max`.
+/// Reads a number of at most `max`.
 pub fn number(scan: &mut Scan, max: u64) -> Result<u64, SetupFault>
     ensures value { Gives (λ n. (n, scan.new.words)) result scan.old.line (number_at max scan.old.words) }
     ensures most { IfOk result (λ n. n ≤ max) }
@@ -41,7 +41,7 @@ pub fn number(scan: &mut Scan, max: u64) -> Result<u64, SetupFault>
     }
 }
 
-/// A number from 1 to `max`.
+/// Reads a number from 1 to `max`.
 #[tactic(auto, unfolding(crate::specs::Reading::number_from_one))]
 pub fn number_from_one(scan: &mut Scan, max: u64) -> Result<u64, SetupFault>
     ensures value { Gives (λ n. (n, scan.new.words)) result scan.old.line (number_from_one max scan.old.words) }
@@ -56,7 +56,7 @@ pub fn number_from_one(scan: &mut Scan, max: u64) -> Result<u64, SetupFault>
     Ok(n)
 }
 
-/// The word `text`.
+/// Reads the word `text`.
 pub fn this_word(scan: &mut Scan, text: &str) -> Result<(), SetupFault>
     ensures value { Gives (λ _. scan.new.words) result scan.old.line (this_word text.now scan.old.words) }
     ensures stays { StaysOnLine scan.old scan.new }
@@ -67,7 +67,7 @@ pub fn this_word(scan: &mut Scan, text: &str) -> Result<(), SetupFault>
     }
 }
 
-/// Nothing more on the line.
+/// Checks that the line has no more words.
 pub fn line_end(scan: &mut Scan) -> Result<(), SetupFault>
     ensures value { Gives (λ _. tt) result scan.old.line (line_ends scan.old.words) }
     ensures words { OnOk result (scan.new.words ≡ scan.old.words) }
@@ -79,7 +79,7 @@ pub fn line_end(scan: &mut Scan) -> Result<(), SetupFault>
     }
 }
 
-/// A name.
+/// Reads a name.
 pub fn name(scan: &mut Scan) -> Result<Name, SetupFault>
     ensures value { Gives (λ n. (n, scan.new.words)) result scan.old.line (name_at scan.old.words) }
     ensures stays { StaysOnLine scan.old scan.new }
@@ -93,7 +93,7 @@ pub fn name(scan: &mut Scan) -> Result<Name, SetupFault>
     }
 }
 
-/// The number of lines of memory, after the word `memory`.
+/// Reads the number of lines of memory after the word `memory`.
 #[tactic(auto, unfolding(crate::specs::Reading::memory_line))]
 pub fn memory_lines(scan: &mut Scan) -> Result<u32, SetupFault>
     ensures value { Gives (λ n. n) result scan.old.line (memory_line scan.old.words) }
@@ -109,7 +109,7 @@ pub fn memory_lines(scan: &mut Scan) -> Result<u32, SetupFault>
     Ok(lines as u32)
 }
 
-/// An address below a bound.
+/// Reads an address below a bound.
 #[tactic(auto, unfolding(crate::specs::Reading::address_at))]
 fn address(scan: &mut Scan, bound: u32) -> Result<u32, SetupFault>
     ensures value { Gives (λ a. (a, scan.new.words)) result scan.old.line (address_at bound scan.old.words) }
@@ -123,7 +123,7 @@ fn address(scan: &mut Scan, bound: u32) -> Result<u32, SetupFault>
     Ok(address as u32)
 }
 
-/// A line of one address, after its first word.
+/// Reads a line of one address after its first word.
 #[tactic(auto, unfolding(crate::specs::Reading::address_line))]
 fn address_line(scan: &mut Scan, bound: u32) -> Result<u32, SetupFault>
     ensures value { Gives (λ a. a) result scan.old.line (address_line bound scan.old.words) }
@@ -135,7 +135,7 @@ fn address_line(scan: &mut Scan, bound: u32) -> Result<u32, SetupFault>
     Ok(address)
 }
 
-/// A line of an address and a value, after its first word.
+/// Reads a line of an address and a value after its first word.
 #[tactic(auto, unfolding(crate::specs::Reading::value_line))]
 pub fn value_line(scan: &mut Scan, bound: u32) -> Result<(u32, u32), SetupFault>
     ensures value { Gives (λ p. p) result scan.old.line (value_line bound scan.old.words) }
@@ -148,7 +148,7 @@ pub fn value_line(scan: &mut Scan, bound: u32) -> Result<(u32, u32), SetupFault>
     Ok((address, value as u32))
 }
 
-/// An access, after its first word.
+/// Reads an access after its first word.
 #[tactic(auto, unfolding(crate::specs::Reading::access_line))]
 pub fn access(scan: &mut Scan, bound: u32, event: LocalEvent) -> Result<Access, SetupFault>
     ensures value { Gives (λ a. a) result scan.old.line (access_line bound event scan.old.words) }

@@ -20,7 +20,7 @@ use setup::Setup;
 use table_check::{BoardSpec, Choose, Shape};
 use table_text::{append_table, table_room};
 
-/// A word after a space.
+/// Appends a space and a word.
 fn word(text: &mut Text, word: &[u8])
     requires { length word.now < text.old.spare }
     ensures bytes { text.new.bytes ≡ text.old.bytes ++ 32 ∷ word.now }
@@ -30,7 +30,7 @@ fn word(text: &mut Text, word: &[u8])
     text.push(word);
 }
 
-/// A number after a space.
+/// Appends a space and a number.
 fn number(text: &mut Text, value: u64)
     requires { 21 ≤ text.old.spare }
     ensures bytes { text.new.bytes ≡ text.old.bytes ++ 32 ∷ decimal value }
@@ -40,7 +40,7 @@ fn number(text: &mut Text, value: u64)
     text.number(value);
 }
 
-/// A line of a word and a number.
+/// Appends a line with a word and a number.
 #[tactic(auto, using(crate::proofs::Writes::one_written))]
 fn line_of_one(text: &mut Text, name: &[u8], value: u64)
     requires { length name.now + 22 ≤ text.old.spare }
@@ -52,7 +52,7 @@ fn line_of_one(text: &mut Text, name: &[u8], value: u64)
     text.push(b"\n");
 }
 
-/// A line of a word and two numbers.
+/// Appends a line with a word and two numbers.
 #[tactic(auto, using(crate::proofs::Writes::two_written))]
 fn line_of_two(text: &mut Text, name: &[u8], first: u64, second: u64)
     requires { length name.now + 43 ≤ text.old.spare }
@@ -65,7 +65,7 @@ fn line_of_two(text: &mut Text, name: &[u8], first: u64, second: u64)
     text.push(b"\n");
 }
 
-/// The lines of the words that are not 0.
+/// Appends a line for each word of memory that is not 0.
 fn word_lines(text: &mut Text, memory: &[u32])
     requires { 48 * length memory.now ≤ text.old.spare }
     ensures bytes { text.new.bytes ≡ text.old.bytes ++ lines_bytes (map word_row (words_from 0 memory.now)) }
@@ -78,7 +78,7 @@ fn word_lines(text: &mut Text, memory: &[u32])
     }
 }
 
-/// The tables, one after another.
+/// Appends the tables in order.
 fn all_tables(text: &mut Text, tables: &[Table])
     requires { table_room * length tables.now ≤ text.old.spare }
     ensures bytes { text.new.bytes ≡ text.old.bytes ++ lines_bytes (tables_rows (map text_of_table tables.now)) }
@@ -90,7 +90,7 @@ fn all_tables(text: &mut Text, tables: &[Table])
     }
 }
 
-/// The words of a cache.
+/// Appends the words of a cache.
 fn shape(text: &mut Text, shape: Shape)
     requires { 49 ≤ text.old.spare }
     ensures bytes { text.new.bytes ≡ text.old.bytes ++ after_words (shape_words shape) }
@@ -106,7 +106,7 @@ fn shape(text: &mut Text, shape: Shape)
     }
 }
 
-/// The words of a chooser.
+/// Appends the words of a chooser.
 fn choose(text: &mut Text, choose: Choose)
     requires { 26 ≤ text.old.spare }
     ensures bytes { text.new.bytes ≡ text.old.bytes ++ after_words (choose_words choose) }
@@ -123,7 +123,7 @@ fn choose(text: &mut Text, choose: Choose)
     }
 }
 
-/// The line of a board at this place, whose table has this name.
+/// Appends the line of the board at this place, whose table has this name.
 fn board_line(text: &mut Text, place: u64, board: &BoardSpec, table: &[u8])
     requires name { length table.now ≤ 32 }
     requires room { 176 ≤ text.old.spare }
@@ -159,7 +159,7 @@ fn access_line(text: &mut Text, access: &Access)
     }
 }
 
-/// The lines of a script.
+/// Appends the lines of a script.
 fn access_lines(text: &mut Text, script: &[Access])
     requires { 48 * length script.now ≤ text.old.spare }
     ensures bytes { text.new.bytes ≡ text.old.bytes ++ lines_bytes (map access_row script.now) }
@@ -171,7 +171,7 @@ fn access_lines(text: &mut Text, script: &[Access])
     }
 }
 
-/// A board and its script.
+/// Appends a board and its script.
 fn one_board(text: &mut Text, tables: &[Table], place: u64, spec: &BoardSpec, accesses: &[Access])
     requires table { spec.now.table < length tables.now }
     requires room { 176 + 48 * length accesses.now ≤ text.old.spare }
@@ -185,7 +185,7 @@ fn one_board(text: &mut Text, tables: &[Table], place: u64, spec: &BoardSpec, ac
     access_lines(text, accesses);
 }
 
-/// The boards in order of their places, each with its script.
+/// Appends the boards in order of their places, each with its script.
 fn all_boards(text: &mut Text, setup: &Setup)
     requires { 176 * length setup.now.boards + 48 * access_count setup.now ≤ text.old.spare }
     ensures bytes { text.new.bytes ≡ text.old.bytes ++ lines_bytes (flat_map board_rows (boards_from setup.now.tables 1 setup.now.boards setup.now.scripts)) }

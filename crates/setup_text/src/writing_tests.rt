@@ -2,21 +2,22 @@
 
 use super::*;
 use fb_text::Text;
+use std::alloc::Global;
 use std::test::*;
 
-// Whether the first text is read and then written as the second.
-fn is_shown(rt: &HostRuntime, text: &str, want: &str) -> bool {
+/// A text as it is written again, once it was read.
+fn shown(alloc: Global, text: &str) -> Result<Text, Fail> {
     if text.len() >= 1000 {
-        return false;
+        return Err(Fail::from("a long text"));
     }
-    let setup = match read_setup(rt.alloc(), text.as_bytes()) {
+    let setup = match read_setup(alloc, text.as_bytes()) {
         Ok(setup) => setup,
-        Err(_) => return false,
+        Err(_) => return Err(Fail::from("no setup")),
     };
-    let mut written = Text::new(rt.alloc());
+    let mut written = Text::new(alloc);
     match write_setup(&setup, &mut written) {
-        Ok(()) => written.bytes() == want.as_bytes(),
-        Err(_) => false,
+        Ok(()) => Ok(written),
+        Err(_) => Err(Fail::from("no memory")),
     }
 }
 
@@ -36,8 +37,9 @@ fn setups_are_written(rt: HostRuntime) -> Result<(), Fail> {
             "memory 2\nword 0 4294967295\nword 5 7\ntable b\nend\ntable a\nS read = S\nend\nboard 1 number 255 table a cached 1 256 choose round\nwrite 7 4294967295\npass 4\nboard 2 number 1 table b plain choose first\nboard 3 number 17 table a cached 16 4 choose seed 18446744073709551615\nflush 0\nread 1\nend\n",
         ),
     ];
-    for row in rows {
-        assert!(rt; is_shown(&rt, row.0, row.1), "{}", row.0);
+    for (text, wanted) in rows {
+        let written = shown(rt.alloc(), text)?;
+        assert_eq!(rt; written.bytes(), wanted.as_bytes(), "{text}");
     }
     Ok(())
 }

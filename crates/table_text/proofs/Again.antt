@@ -10,55 +10,21 @@ use Rattle.moesi_state.specs.declared.State.TheVariants.{M, O, E, S, I}
 use Rattle.bus_signals.specs.declared.BusEvent.{BusEvent}
 use Rattle.bus_signals.specs.declared.BusEvent.TheVariants.{Rd, Rfo, Inv, Urd, Bwr, Uwr, Ubw, Pas, Flu}
 use Rattle.moesi_state.specs.declared.Outcome.{Outcome}
-use Rattle.moesi_state.specs.declared.Outcome.TheVariants.{Fixed, OnHit}
 use Rattle.class_relation.specs.declared.LocalAction.{LocalAction}
 use Rattle.class_relation.specs.declared.SnoopAction.{SnoopAction}
 use Rattle.class_relation.specs.Tables.{local_cell, answer_cell}
 use Rattle.class_relation.specs.Tables.{Table, empty_table, with_local, with_answer}
 use Rattle.table_text.specs.declared.fault.TableKind.{TableKind}
 use Rattle.table_text.specs.declared.fault.TableKind.TheVariants.{UnknownWord, NoCell}
-use Rattle.class_words.specs.Words.{state_word, bus_event_word, outcome_word, outcome_of, state_of}
+use Rattle.class_words.specs.Words.{state_word, bus_event_word, outcome_of, state_of}
 use Rattle.table_text.specs.Reading.{Fault, line_ends, bar_or_end, local_action, local_rest, local_at, snoop_rest, snoop_at, alternatives, local_cell_at, snoop_cell_at, cell_line, table_line, table_lines, table_at}
 use Rattle.table_text.specs.Spelling.{bar, bus_words, local_words, snoop_words, alternative_words, CellLine, local, answer, cell_words, table_items, entered, all_entered, table_of}
 use Rattle.table_text.specs.Correct.{CanStand, AllStand}
-use Rattle.class_words.proofs.WordLaws.{state_again, local_event_again, bus_event_again}
+use Rattle.class_words.proofs.WordLaws.{state_again, local_event_again, bus_event_again, outcome_again}
 use Rattle.table_text.proofs.EventWords.{no_local_event}
 use Rattle.table_text.proofs.Alternatives.{tail, answer_of}
 use Rattle.table_text.proofs.TableLaws.{HasAllCells, rows_items, all_added, local_added, snoop_added, place_local, place_snoop, entered_whole, empty_whole}
 use Rattle.fb_text.proofs.LineItems.{items_line, cut_line}
-
-pub outcome_again : (o : Outcome) → outcome_of (outcome_word o) ≡ Some o
-unfolding outcome_of state_of
-outcome_again (Fixed M) = refl
-outcome_again (Fixed O) = refl
-outcome_again (Fixed E) = refl
-outcome_again (Fixed S) = refl
-outcome_again (Fixed I) = refl
-outcome_again (OnHit M M) = refl
-outcome_again (OnHit M O) = refl
-outcome_again (OnHit M E) = refl
-outcome_again (OnHit M S) = refl
-outcome_again (OnHit M I) = refl
-outcome_again (OnHit O M) = refl
-outcome_again (OnHit O O) = refl
-outcome_again (OnHit O E) = refl
-outcome_again (OnHit O S) = refl
-outcome_again (OnHit O I) = refl
-outcome_again (OnHit E M) = refl
-outcome_again (OnHit E O) = refl
-outcome_again (OnHit E E) = refl
-outcome_again (OnHit E S) = refl
-outcome_again (OnHit E I) = refl
-outcome_again (OnHit S M) = refl
-outcome_again (OnHit S O) = refl
-outcome_again (OnHit S E) = refl
-outcome_again (OnHit S S) = refl
-outcome_again (OnHit S I) = refl
-outcome_again (OnHit I M) = refl
-outcome_again (OnHit I O) = refl
-outcome_again (OnHit I E) = refl
-outcome_again (OnHit I S) = refl
-outcome_again (OnHit I I) = refl
 
 pub not_bar : (b : BusEvent) → bytes_eq (bus_event_word b) bar ≡ false
 not_bar Rd = refl

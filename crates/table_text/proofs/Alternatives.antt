@@ -1,22 +1,19 @@
 -- What is read on a line is what is written there.
-use Rattle.std.proofs.Common.{◌≡◌, ℕ, Bool, true, false, cond, eqb, ◌&&◌, List, [], ◌∷◌, ◌++◌, length, take, drop, Option, Some, None, Result, Ok, Err, refl, sym, ap, subst, ◌∙◌, append_assoc, arith}
+use Rattle.std.proofs.Common.{◌≡◌, ℕ, Bool, true, false, cond, List, [], ◌∷◌, ◌++◌, Option, Some, None, Result, Ok, Err, refl, sym, ap, subst, ◌∙◌, append_assoc}
 use Rattle.std.specs.Prelude.{codes}
-use Rattle.std.proofs.lemmas.Bool.{eqb-true}
-use Rattle.std.specs.Option.{option_map}
 use Rattle.std.specs.Str.{bytes_eq}
 use Rattle.std.proofs.lemmas.Slice.Eq.{bytes_eq-Decides}
 use Rattle.moesi_state.specs.declared.State.{State}
 use Rattle.bus_signals.specs.declared.BusEvent.{BusEvent}
 use Rattle.moesi_state.specs.declared.Outcome.{Outcome}
-use Rattle.moesi_state.specs.declared.Outcome.TheVariants.{Fixed, OnHit}
 use Rattle.class_relation.specs.declared.LocalAction.{LocalAction}
 use Rattle.class_relation.specs.declared.SnoopAction.{SnoopAction}
 use Rattle.table_text.specs.declared.fault.TableKind.{TableKind}
-use Rattle.class_words.specs.Words.{state_word, bus_event_word, outcome_word, state_of, bus_event_of, outcome_of, on_hit, is_on_hit}
+use Rattle.class_words.specs.Words.{state_word, bus_event_word, outcome_word, state_of, bus_event_of, outcome_of}
 use Rattle.fb_text.specs.Places.{Words}
 use Rattle.table_text.specs.Reading.{◌>>=◌, spelled_by, word_by, bar_or_end, local_action, bus_event_at, local_rest, local_at, signal_at, snoop_rest, snoop_at, response}
 use Rattle.table_text.specs.Spelling.{bar, local_words, signal_words, snoop_words}
-use Rattle.class_words.proofs.WordLaws.{state_is, bus_event_is}
+use Rattle.class_words.proofs.WordLaws.{state_is, bus_event_is, outcome_is}
 
 -- the value of a step that did not fail
 pub bind_ok : {A B E : Type 0} (r : Result A E) (f : A → Result B E) (y : B) → (r >>= f) ≡ Ok y → (x : A) × (r ≡ Ok x) × (f x ≡ Ok y)
@@ -66,50 +63,6 @@ bar_ends [] x e h = let same = ok_is (false, []) x e in subst (λ (y : Bool × W
 bar_ends (w ∷ ws) x e h =
     let k = wanted (bytes_eq w bar) (true, ws) x _ e in
     absurd (let other : true ≡ x.0 = ap (λ (y : Bool × Words). y.0) k.1 in let both : true ≡ false = other ∙ h in cc)
-
--- six bytes, part by part
-six : (w : List ℕ) → length w ≡ 6 → w ≡ take 3 w ++ (take 1 (drop 3 w) ++ (take 1 (drop 4 w) ++ drop 5 w))
-six [] e = absurd (omega arith)
-six (a ∷ []) e = absurd (omega arith)
-six (a ∷ b ∷ []) e = absurd (omega arith)
-six (a ∷ b ∷ c ∷ []) e = absurd (omega arith)
-six (a ∷ b ∷ c ∷ d ∷ []) e = absurd (omega arith)
-six (a ∷ b ∷ c ∷ d ∷ x ∷ []) e = absurd (omega arith)
-six (a ∷ b ∷ c ∷ d ∷ x ∷ y ∷ more) e = refl
-
-both_hold : (a b : Bool) → (a && b) ≡ true → (a ≡ true) × (b ≡ true)
-both_hold true b e = (refl, e)
-both_hold false b e = absurd cc
-
-on_hit_is : (a b : List ℕ) (o : Outcome) → on_hit (state_of a) (state_of b) ≡ Some o → codes "CH:" ++ (a ++ (codes "/" ++ b)) ≡ outcome_word o
-on_hit_is a b o e = go (state_of a) (state_of b) refl refl e
-  where
-    go : (x y : Option State) → state_of a ≡ x → state_of b ≡ y → on_hit x y ≡ Some o → codes "CH:" ++ (a ++ (codes "/" ++ b)) ≡ outcome_word o
-    go None y h k e = absurd cc
-    go (Some s) None h k e = absurd cc
-    go (Some s) (Some t) h k e =
-        let same : OnHit s t ≡ o = cc in
-        subst (λ (z : Outcome). codes "CH:" ++ (a ++ (codes "/" ++ b)) ≡ outcome_word z) same (rw (state_is a s h, state_is b t k, append_assoc (state_word s) (codes "/") (state_word t)) refl)
-
-fixed_is : (w : List ℕ) (o : Outcome) → option_map Fixed (state_of w) ≡ Some o → w ≡ outcome_word o
-fixed_is w o e = go (state_of w) refl e
-  where
-    go : (x : Option State) → state_of w ≡ x → option_map Fixed x ≡ Some o → w ≡ outcome_word o
-    go None h e = absurd cc
-    go (Some s) h e = let same : Fixed s ≡ o = cc in subst (λ (z : Outcome). w ≡ outcome_word z) same (state_is w s h)
-
-pub outcome_is : (w : List ℕ) (o : Outcome) → outcome_of w ≡ Some o → w ≡ outcome_word o
-unfolding outcome_of
-outcome_is w o e = go (is_on_hit w) refl e
-  where
-    go : (b : Bool) → is_on_hit w ≡ b → cond b (on_hit (state_of (take 1 (drop 3 w))) (state_of (drop 5 w))) (option_map Fixed (state_of w)) ≡ Some o → w ≡ outcome_word o
-    go true h e =
-        let two = both_hold (eqb (length w) 6 && bytes_eq (take 3 w) (codes "CH:")) (bytes_eq (take 1 (drop 4 w)) (codes "/")) h in
-        let one = both_hold (eqb (length w) 6) (bytes_eq (take 3 w) (codes "CH:")) two.0 in
-        let front = is_word (take 3 w) (codes "CH:") one.1 in
-        let slash = is_word (take 1 (drop 4 w)) (codes "/") two.1 in
-        six w (eqb-true _ _ one.0) ∙ (rw (front, slash) refl ∙ on_hit_is (take 1 (drop 3 w)) (drop 5 w) o e)
-    go false h e = fixed_is w o e
 
 abbrev one_local : LocalAction × Bool × Words → Words
 one_local x = local_words x.0 ++ tail x.1 x.2

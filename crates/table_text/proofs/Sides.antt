@@ -12,10 +12,10 @@ use Rattle.fb_text.specs.Places.{Words}
 use Rattle.table_text.specs.Reading.{local_at, snoop_at, alternatives, no_room, local_alternatives, snoop_alternatives, local_cell_at, snoop_cell_at, cell_line}
 use Rattle.table_text.specs.Spelling.{bus_words, local_words, snoop_words, alternative_words, CellLine, local, answer, cell_words, HasAlternative}
 use Rattle.fb_text.proofs.LineItems.{from}
-use Rattle.class_words.proofs.WordLaws.{state_again, local_event_again, bus_event_again}
+use Rattle.class_words.proofs.WordLaws.{state_again, local_event_again, bus_event_again, outcome_again}
 use Rattle.table_text.proofs.EventWords.{no_local_event}
 use Rattle.table_text.proofs.Alternatives.{tail}
-use Rattle.table_text.proofs.Again.{left, outcome_again, local_again, snoop_again}
+use Rattle.table_text.proofs.Again.{left, local_again, snoop_again}
 
 -- a fault that is no side condition's
 abbrev pub IsHard : TableKind → Type 0

@@ -17,9 +17,8 @@ use Rattle.fb_text.specs.Places.{Words}
 use Rattle.table_text.specs.Reading.{◌>>=◌, spelled_by, bar_or_end, local_action, bus_event_at, local_rest, local_at, signal_at, snoop_rest, snoop_at}
 use Rattle.table_text.specs.Spelling.{bar, local_words, signal_words, snoop_words}
 use Rattle.fb_text.proofs.LineItems.{from}
-use Rattle.class_words.proofs.WordLaws.{state_is, bus_event_is}
-use Rattle.table_text.proofs.Alternatives.{outcome_is, answer_of, signal_takes}
-use Rattle.table_text.proofs.Again.{outcome_again}
+use Rattle.class_words.proofs.WordLaws.{state_is, bus_event_is, outcome_is, outcome_again}
+use Rattle.table_text.proofs.Alternatives.{answer_of, signal_takes}
 
 -- what stands before, the word at which it stops or the end of the line, why, and that it stops there however the line goes on
 pub record Stops {X : Type 0} (read : Words → Result X TableKind) (Begins : Words → Type 0) (Why : Words → Option (List ℕ) → TableKind → Type 0) (ws : Words) (kind : TableKind) : Type 0 where

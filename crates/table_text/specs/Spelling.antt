@@ -59,7 +59,7 @@ table_rows cells = [] ∷ (map cell_words cells ++ (codes "end" ∷ []) ∷ [])
 abbrev pub table_items : List CellLine → List Item
 table_items cells = lines_items (table_rows cells)
 
--- ---- what is meant
+-- ---- what a text means
 
 -- the cell has these alternatives
 abbrev pub entered : Table → CellLine → Table

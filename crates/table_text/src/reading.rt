@@ -1,4 +1,4 @@
-//! Reading a table, word after word.
+//! Reading a table word by word.
 
 ghost use Rattle.std.specs.Prelude.{◌≡◌, ℕ, [], ◌∷◌, true, codes, ◌++◌, List, IfOk, IfErr, OnOk};
 ghost use Rattle.class_words.specs.Words.{outcome_of, state_of};
@@ -34,7 +34,7 @@ fn unknown(scan: &Scan) -> TableFault
     bad(scan, TableKind::UnknownWord)
 }
 
-/// A result, or the fault `missing` where the line ends.
+/// Reads a result. Where the line ends, the fault is `missing`.
 fn outcome(scan: &mut Scan, missing: TableKind) -> Result<Outcome, TableFault>
     ensures value { Gives (λ x. (x, scan.new.words)) result scan.old.line (word_by outcome_of missing scan.old.words) }
     ensures stays { StaysOnLine scan.old scan.new }
@@ -45,7 +45,7 @@ fn outcome(scan: &mut Scan, missing: TableKind) -> Result<Outcome, TableFault>
     }
 }
 
-/// A state, or the fault `missing` where the line ends.
+/// Reads a state. Where the line ends, the fault is `missing`.
 fn state(scan: &mut Scan, missing: TableKind) -> Result<State, TableFault>
     ensures value { Gives (λ x. (x, scan.new.words)) result scan.old.line (word_by state_of missing scan.old.words) }
     ensures stays { StaysOnLine scan.old scan.new }
@@ -56,7 +56,7 @@ fn state(scan: &mut Scan, missing: TableKind) -> Result<State, TableFault>
     }
 }
 
-/// Whether a word that was taken is `|`, or the line ended.
+/// Whether the word taken is `|`. It may be that none was left.
 fn bar(scan: &Scan, word: Option<&[u8]>) -> Result<bool, TableFault>
     ensures { GivesBar result scan.now.line (option_copied word.entry) }
 {
@@ -67,7 +67,7 @@ fn bar(scan: &Scan, word: Option<&[u8]>) -> Result<bool, TableFault>
     }
 }
 
-/// A local alternative, and whether another follows.
+/// Reads a local alternative, and whether another follows.
 #[tactic(auto, unfolding(crate::specs::Reading::local_at))]
 fn local_action(scan: &mut Scan, missing: TableKind) -> Result<(LocalAction, bool), TableFault>
     ensures value { Gives (λ x. (x.0, x.1, scan.new.words)) result scan.old.line (local_at missing scan.old.words) }
@@ -94,7 +94,7 @@ fn local_action(scan: &mut Scan, missing: TableKind) -> Result<(LocalAction, boo
     ))
 }
 
-/// Whether a word that was taken is this signal, and the word to be looked at next.
+/// Whether the word taken is this signal, and the word to look at next.
 fn signal<'a>(scan: &mut Scan<'a>, word: Option<&'a [u8]>, name: &str) -> (bool, Option<&'a [u8]>)
     requires { IsLast (option_copied word) scan.old.words }
     ensures value { (result.0, onto (option_copied result.1) scan.new.words) ≡ signal_at name.now (onto (option_copied word.entry) scan.old.words) }
@@ -107,7 +107,7 @@ fn signal<'a>(scan: &mut Scan<'a>, word: Option<&'a [u8]>, name: &str) -> (bool,
     }
 }
 
-/// An answer, and whether another follows.
+/// Reads an answer, and whether another follows.
 #[tactic(auto, unfolding(crate::specs::Reading::snoop_at))]
 fn snoop_action(scan: &mut Scan, missing: TableKind) -> Result<(SnoopAction, bool), TableFault>
     ensures value { Gives (λ x. (x.0, x.1, scan.new.words)) result scan.old.line (snoop_at missing scan.old.words) }
@@ -123,7 +123,7 @@ fn snoop_action(scan: &mut Scan, missing: TableKind) -> Result<(SnoopAction, boo
     Ok((SnoopAction { result, response }, more))
 }
 
-/// The fault of a local alternative that has no room.
+/// The fault of a local alternative for which there is no room.
 fn no_local_room(scan: &mut Scan, missing: TableKind) -> TableFault
     ensures value { FailsAs (no_room outcome_of missing scan.old.words) scan.old.line result }
     ensures stays { StaysOnLine scan.old scan.new }
@@ -134,7 +134,7 @@ fn no_local_room(scan: &mut Scan, missing: TableKind) -> TableFault
     }
 }
 
-/// The fault of an answer that has no room.
+/// The fault of an answer for which there is no room.
 fn no_snoop_room(scan: &mut Scan, missing: TableKind) -> TableFault
     ensures value { FailsAs (no_room state_of missing scan.old.words) scan.old.line result }
     ensures stays { StaysOnLine scan.old scan.new }
@@ -155,7 +155,7 @@ fn not_pushed(fault: PushFault) -> TableFault
     }
 }
 
-/// The alternatives of a local cell.
+/// Reads the alternatives of a local cell.
 fn local_alternatives(
     scan: &mut Scan,
     table: &mut Table,
@@ -181,7 +181,7 @@ fn local_alternatives(
     Err(no_local_room(scan, missing))
 }
 
-/// The alternatives of an answer cell.
+/// Reads the alternatives of an answer cell.
 fn snoop_alternatives(
     scan: &mut Scan,
     table: &mut Table,
@@ -207,7 +207,7 @@ fn snoop_alternatives(
     Err(no_snoop_room(scan, missing))
 }
 
-/// The `=` after an event, and that a word follows.
+/// Reads the `=` after an event.
 fn equals(scan: &mut Scan) -> Result<(), TableFault>
     ensures value { Gives (λ _. scan.new.words) result scan.old.line (this_word (codes "=") scan.old.words) }
     ensures stays { StaysOnLine scan.old scan.new }
@@ -218,7 +218,7 @@ fn equals(scan: &mut Scan) -> Result<(), TableFault>
     }
 }
 
-/// The cell of a state and a local event, after these two words.
+/// Reads the cell of a state and a local event after these two words.
 #[tactic(auto, unfolding(crate::specs::Reading::local_cell_at))]
 fn local_cell(
     scan: &mut Scan,
@@ -236,7 +236,7 @@ fn local_cell(
     local_alternatives(scan, table, state, event)
 }
 
-/// The cell of a state and a bus event, after these two words.
+/// Reads the cell of a state and a bus event after these two words.
 #[tactic(auto, unfolding(crate::specs::Reading::snoop_cell_at))]
 fn snoop_cell(
     scan: &mut Scan,
@@ -254,7 +254,7 @@ fn snoop_cell(
     snoop_alternatives(scan, table, state, event)
 }
 
-/// A line that gives a cell its alternatives, whose first word was taken.
+/// Reads a line that gives a cell its alternatives. Its first word was taken already.
 #[tactic(auto, unfolding(crate::specs::Reading::cell_line))]
 fn cell(scan: &mut Scan, table: &mut Table, first: &[u8]) -> Result<(), TableFault>
     ensures value { Gives (λ _. table.new) result scan.old.line (cell_line table.old (first.now ∷ scan.old.words)) }
@@ -275,7 +275,7 @@ fn cell(scan: &mut Scan, table: &mut Table, first: &[u8]) -> Result<(), TableFau
     }
 }
 
-/// Nothing more on the line.
+/// Checks that the line has no more words.
 fn line_end(scan: &mut Scan) -> Result<(), TableFault>
     ensures value { Gives (λ _. tt) result scan.old.line (line_ends scan.old.words) }
     ensures words { OnOk result (scan.new.words ≡ []) }
@@ -287,7 +287,7 @@ fn line_end(scan: &mut Scan) -> Result<(), TableFault>
     }
 }
 
-/// One line of a table, and whether it is the `end` line.
+/// Reads one line of a table. Answers whether it was the `end` line.
 #[tactic(auto, unfolding(crate::specs::Reading::table_line, crate::specs::Reading::cell_line))]
 fn line(scan: &mut Scan, table: &mut Table) -> Result<bool, TableFault>
     ensures value { Gives (λ ended. (ended, table.new)) result scan.old.line (table_line table.old scan.old.words) }
@@ -305,20 +305,20 @@ fn line(scan: &mut Scan, table: &mut Table) -> Result<bool, TableFault>
     Ok(false)
 }
 
-/// The rest of a table of this name, from just after its name to the end of its `end` line.
+/// Reads the rest of a table of this name, from just after its name to the end of its `end` line.
 #[tactic(auto, using(crate::proofs::Read::is_spelled, crate::proofs::Read::is_read, crate::proofs::Read::is_first, crate::proofs::Bytes::is_read_again))]
 pub fn read_table(alloc: Global, scan: &mut Scan, name: Name) -> Result<Table, TableFault>
-    // What is read is spelled so, up to where the scan stands.
+    // The text, up to where the scan stands, spells the table that was read.
     ensures spelled { IfOk result (λ t. IsTable name scan.old t scan.new) }
-    // What is spelled so is read, whatever follows it.
+    // A table that the text spells is read, whatever follows it.
     ensures only { (cells : List CellLine) (rest : List Item) → AllStand (empty_table name) cells
         → items (places scan.old) ≡ table_items cells ++ rest → IsReadAs result (table_of name cells) }
-    // A table that was written is read again, whatever follows it.
+    // A table that was written is read back, whatever follows it.
     ensures written { (t : Table) (rest : List ℕ) → IsWhole t → name ≡ t.name → scan.old ≡ after_head (written_table t ++ rest) → IsReadAs result t }
-    // So it is after other lines, and what follows it is then still to be read.
+    // The same holds after other lines, and what follows the table is then still to be read.
     ensures goes_on { (t : Table) (line end : ℕ) (rest : List ℕ) → IsWhole t → name ≡ t.name → scan.old ≡ behind_head line end t rest
         → IsReadAs result t × OnOk result (scan.new ≡ behind_table line end t rest) }
-    // A fault is that of the first place at fault, with its line and its kind.
+    // A fault has the line and the kind of the first place at fault.
     ensures first { IfErr result (λ e. IsFirstFault e (places scan.old)) }
     // Which table or which fault it is.
     ensures exact { GivesTable result scan.new (table_at name scan.old) }

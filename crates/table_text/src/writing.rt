@@ -13,7 +13,7 @@ use class_words::{bus_event_text, local_event_text, state_text};
 use fb_text::{NoMemory, Text};
 use moesi_state::{Outcome, State};
 
-/// A word after a space.
+/// Appends a space and a word.
 fn word(text: &mut Text, word: &str)
     requires { length word.now < text.old.spare }
     ensures bytes { text.new.bytes ≡ text.old.bytes ++ 32 ∷ word.now }
@@ -23,7 +23,7 @@ fn word(text: &mut Text, word: &str)
     text.push(word.as_bytes());
 }
 
-/// A word of one byte after a space.
+/// Appends a space and a word of one byte.
 fn mark(text: &mut Text, mark: u8)
     requires { 2 ≤ text.old.spare }
     ensures bytes { text.new.bytes ≡ text.old.bytes ++ 32 ∷ mark ∷ [] }
@@ -48,7 +48,7 @@ fn outcome(text: &mut Text, outcome: Outcome)
     }
 }
 
-/// Appends an alternative of a local event, each of its words after a space. It has at most 11 bytes.
+/// Appends an alternative of a local event, with a space before each word. It has at most 11 bytes.
 pub fn write_local_action(action: LocalAction, text: &mut Text)
     requires { 11 ≤ text.old.spare }
     ensures bytes { text.new.bytes ≡ text.old.bytes ++ after_words (local_words action) }
@@ -72,7 +72,7 @@ fn signal(text: &mut Text, holds: bool, name: &str)
     }
 }
 
-/// Appends an answer, each of its words after a space. It has at most 11 bytes.
+/// Appends an answer, with a space before each word. It has at most 11 bytes.
 pub fn write_answer(action: SnoopAction, text: &mut Text)
     requires { 11 ≤ text.old.spare }
     ensures bytes { text.new.bytes ≡ text.old.bytes ++ after_words (snoop_words action) }
@@ -84,7 +84,7 @@ pub fn write_answer(action: SnoopAction, text: &mut Text)
     signal(text, action.response.sl, "SL");
 }
 
-/// The `=` and the alternatives of a local cell.
+/// Appends the `=` and the alternatives of a local cell.
 fn local_alternatives(text: &mut Text, alternatives: &[LocalAction])
     requires some { 0 < length alternatives.now }
     requires room { 13 * length alternatives.now ≤ text.old.spare }
@@ -99,7 +99,7 @@ fn local_alternatives(text: &mut Text, alternatives: &[LocalAction])
     }
 }
 
-/// The `=` and the alternatives of an answer cell.
+/// Appends the `=` and the alternatives of an answer cell.
 fn snoop_alternatives(text: &mut Text, alternatives: &[SnoopAction])
     requires some { 0 < length alternatives.now }
     requires room { 13 * length alternatives.now ≤ text.old.spare }
@@ -114,7 +114,7 @@ fn snoop_alternatives(text: &mut Text, alternatives: &[SnoopAction])
     }
 }
 
-/// The line of a local cell, where it has alternatives.
+/// Appends the line of a local cell, where it has alternatives.
 fn local_line(text: &mut Text, table: &Table, state: State, event: LocalEvent)
     requires { 256 ≤ text.old.spare }
     ensures bytes { text.new.bytes ≡ text.old.bytes ++ cells_bytes (local_line table.now state event) }
@@ -130,7 +130,7 @@ fn local_line(text: &mut Text, table: &Table, state: State, event: LocalEvent)
     text.push(b"\n");
 }
 
-/// The line of an answer cell, where it has alternatives.
+/// Appends the line of an answer cell, where it has alternatives.
 fn snoop_line(text: &mut Text, table: &Table, state: State, event: BusEvent)
     requires { 256 ≤ text.old.spare }
     ensures bytes { text.new.bytes ≡ text.old.bytes ++ cells_bytes (snoop_line table.now state event) }
@@ -146,7 +146,7 @@ fn snoop_line(text: &mut Text, table: &Table, state: State, event: BusEvent)
     text.push(b"\n");
 }
 
-/// The lines of a state.
+/// Appends the lines of a state.
 fn state_lines(text: &mut Text, table: &Table, state: State)
     requires { 3328 ≤ text.old.spare }
     ensures bytes { text.new.bytes ≡ text.old.bytes ++ cells_bytes (state_lines table.now state) }
