@@ -77,26 +77,28 @@ module _ (setup : Setup) (c : Configuration) (parts : Parts) (shows : PartsShow 
           record {
             idle = sym shows.phase ∙ f.0;
             by_raised = requested by f.1.0;
-            winner_raised = requested winner won.raised;
-            winner_highest = sym (number_shown setup c parts shows winner) ∙ s.number_highest ∙ ap highest compete;
-            lines_settled = s.lines_settled ∙ ap settled_lines compete;
-            rounds_settled = s.rounds_settled ∙ ap settled_rounds compete;
+            wins = record {
+              raised = requested winner won.raised;
+              number_highest = sym (number_shown setup c parts shows winner) ∙ s.number_highest ∙ ap highest compete;
+              lines_settled = s.lines_settled ∙ ap settled_lines compete;
+              rounds_settled = s.rounds_settled ∙ ap settled_rounds compete;
+            };
           }
 
       back : CanGrant setup c by winner lines rounds → (phase_of parts.phase ≡ Idle) × (HasRaised parts by × (Wins parts winner lines rounds × Unit {0}))
       back can =
           let compete = sym (competitors-shown setup c parts shows (sym long)) in
           let s : Settles (competitors parts.requests) (number_of (setup_of parts.rack) winner) lines rounds = record {
-            number_highest = number_shown setup c parts shows winner ∙ can.winner_highest ∙ ap highest compete;
-            lines_settled = can.lines_settled ∙ ap settled_lines compete;
-            rounds_settled = can.rounds_settled ∙ ap settled_rounds compete;
+            number_highest = number_shown setup c parts shows winner ∙ can.wins.number_highest ∙ ap highest compete;
+            lines_settled = can.wins.lines_settled ∙ ap settled_lines compete;
+            rounds_settled = can.wins.rounds_settled ∙ ap settled_rounds compete;
           } in (
             shows.phase ∙ can.idle,
             (
               requesting by can.by_raised,
               (
                 record {
-                  raised = requesting winner can.winner_raised;
+                  raised = requesting winner can.wins.raised;
                   settles = settled (competitors parts.requests) (number_of (setup_of parts.rack) winner) lines rounds (some_compete by can.by_raised) s;
                 },
                 tt,

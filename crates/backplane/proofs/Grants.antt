@@ -5,8 +5,8 @@ use Rattle.bus_model.specs.Places.{places_from}
 use Rattle.bus_model.specs.Setup.{Setup, BoardSpec, number_of}
 use Rattle.bus_model.specs.Events.{Grant, Raise, Transaction}
 use Rattle.bus_model.specs.Configuration.{Configuration, Progress, Idle, Granted, Connected, fresh, is_raised}
-use Rattle.bus_model.specs.Arbitration.{competing, competing_numbers}
-use Rattle.bus_model.specs.Turns.{Did, Waits, BusTaken, winner_of, grant_turn, request_turn}
+use Rattle.bus_model.specs.Arbitration.{competing, competing_numbers, winner_of}
+use Rattle.bus_model.specs.Turns.{Did, Waits, BusTaken, grant_turn, request_turn}
 use Rattle.settling.specs.Settling.{highest, settled_lines, settled_rounds}
 use Rattle.arbiter.specs.Raised.{Requests, raised_numbers, winner_from, winner_with, competitors, has_raised}
 use Rattle.backplane.specs.declared.parts.Parts.{Parts}
@@ -118,10 +118,10 @@ grant-told setup c p b winner lines rounds s l first is_lines is_rounds =
     let found : find (λ board. number_of setup board == highest (competing_numbers setup c.boards)) (competing setup c.boards) ≡ Some winner =
     ap (λ (ns : List ℕ). find (λ board. number_of setup board == highest ns) (competing setup c.boards)) (sym numbers)
     ∙ sym (winner-shown setup c p (highest (competitors p.requests)) s long) ∙ first in
-    let who : winner ≡ winner_of setup c = sym (ap (λ (o : Option ℕ). unwrap_or o 0) found) in
+    let who : winner ≡ winner_of setup c.boards = sym (ap (λ (o : Option ℕ). unwrap_or o 0) found) in
     ap (λ (w : ℕ). Did (Grant b w lines rounds)) who
-    ∙ ap (λ (n : ℕ). Did (Grant b (winner_of setup c) n rounds)) (is_lines ∙ ap settled_lines numbers)
-    ∙ ap (λ (n : ℕ). Did (Grant b (winner_of setup c) (settled_lines (competing_numbers setup c.boards)) n)) (is_rounds ∙ ap settled_rounds numbers)
+    ∙ ap (λ (n : ℕ). Did (Grant b (winner_of setup c.boards) n rounds)) (is_lines ∙ ap settled_lines numbers)
+    ∙ ap (λ (n : ℕ). Did (Grant b (winner_of setup c.boards) (settled_lines (competing_numbers setup c.boards)) n)) (is_rounds ∙ ap settled_rounds numbers)
 
 -- What a board without a grant does for the bus.
 pub asks : (setup : Setup) (c : Configuration) (b : ℕ) → is_raised c.boards b ≡ false → Did (Raise b) ≡ request_turn setup c b (is_raised c.boards b) c.phase

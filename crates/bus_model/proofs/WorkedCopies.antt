@@ -20,7 +20,7 @@ clean_victim_plays =
       runs = (
         (read 0, record { present = refl; not_raised = refl; not_granted = refl; not_connected = refl; needs = refl }),
         (
-          record { idle = refl; by_raised = refl; winner_raised = refl; winner_highest = refl; lines_settled = refl; rounds_settled = refl },
+          record { idle = refl; by_raised = refl; wins = record { raised = refl; number_highest = refl; lines_settled = refl; rounds_settled = refl } },
           (
             (read 0, record { present = refl; granted = refl; purpose = inl (record { line = refl; alternative = refl; room = λ h. cc }); answers = tt }),
             (
@@ -30,7 +30,7 @@ clean_victim_plays =
                 (
                   (read 4, record { present = refl; not_raised = refl; not_granted = refl; not_connected = refl; needs = refl }),
                   (
-                    record { idle = refl; by_raised = refl; winner_raised = refl; winner_highest = refl; lines_settled = refl; rounds_settled = refl },
+                    record { idle = refl; by_raised = refl; wins = record { raised = refl; number_highest = refl; lines_settled = refl; rounds_settled = refl } },
                     (
                       (read 4, record { present = refl; granted = refl; purpose = inl (record { line = refl; alternative = refl; room = λ h. cc }); answers = tt }),
                       (
@@ -40,7 +40,7 @@ clean_victim_plays =
                           (
                             (pass 4, record { present = refl; not_raised = refl; not_granted = refl; not_connected = refl; needs = refl }),
                             (
-                              record { idle = refl; by_raised = refl; winner_raised = refl; winner_highest = refl; lines_settled = refl; rounds_settled = refl },
+                              record { idle = refl; by_raised = refl; wins = record { raised = refl; number_highest = refl; lines_settled = refl; rounds_settled = refl } },
                               (
                                 (pass 4, record { present = refl; granted = refl; purpose = inl (record { line = refl; alternative = refl; room = λ h. cc }); answers = tt }),
                                 (
@@ -72,7 +72,7 @@ captured_plays =
       runs = (
         (write 0 5, record { present = refl; not_raised = refl; not_granted = refl; not_connected = refl; needs = refl }),
         (
-          record { idle = refl; by_raised = refl; winner_raised = refl; winner_highest = refl; lines_settled = refl; rounds_settled = refl },
+          record { idle = refl; by_raised = refl; wins = record { raised = refl; number_highest = refl; lines_settled = refl; rounds_settled = refl } },
           (
             (write 0 5, record { present = refl; granted = refl; purpose = inl (record { line = refl; alternative = refl; room = λ h. cc }); answers = tt }),
             (
@@ -80,7 +80,7 @@ captured_plays =
               (
                 (read 0, record { present = refl; not_raised = refl; not_granted = refl; not_connected = refl; needs = refl }),
                 (
-                  record { idle = refl; by_raised = refl; winner_raised = refl; winner_highest = refl; lines_settled = refl; rounds_settled = refl },
+                  record { idle = refl; by_raised = refl; wins = record { raised = refl; number_highest = refl; lines_settled = refl; rounds_settled = refl } },
                   (
                     (read 0, record { present = refl; granted = refl; purpose = inl (record { line = refl; alternative = refl; room = λ h. cc }); answers = (refl, refl, tt) }),
                     (
@@ -88,7 +88,7 @@ captured_plays =
                       (
                         (write 1 8, record { present = refl; not_raised = refl; not_granted = refl; not_connected = refl; needs = refl }),
                         (
-                          record { idle = refl; by_raised = refl; winner_raised = refl; winner_highest = refl; lines_settled = refl; rounds_settled = refl },
+                          record { idle = refl; by_raised = refl; wins = record { raised = refl; number_highest = refl; lines_settled = refl; rounds_settled = refl } },
                           (
                             (write 1 8, record { present = refl; granted = refl; purpose = inl (record { line = refl; alternative = refl; room = λ h. cc }); answers = (refl, refl, (refl, refl, tt)) }),
                             (
@@ -96,7 +96,7 @@ captured_plays =
                               (
                                 (write 2 9, record { present = refl; not_raised = refl; not_granted = refl; not_connected = refl; needs = refl }),
                                 (
-                                  record { idle = refl; by_raised = refl; winner_raised = refl; winner_highest = refl; lines_settled = refl; rounds_settled = refl },
+                                  record { idle = refl; by_raised = refl; wins = record { raised = refl; number_highest = refl; lines_settled = refl; rounds_settled = refl } },
                                   (
                                     (write 2 9, record { present = refl; granted = refl; purpose = inl (record { line = refl; alternative = refl; room = λ h. cc }); answers = (refl, refl, tt) }),
                                     (
@@ -104,7 +104,7 @@ captured_plays =
                                       (
                                         (write 0 6, record { present = refl; not_raised = refl; not_granted = refl; not_connected = refl; needs = refl }),
                                         (
-                                          record { idle = refl; by_raised = refl; winner_raised = refl; winner_highest = refl; lines_settled = refl; rounds_settled = refl },
+                                          record { idle = refl; by_raised = refl; wins = record { raised = refl; number_highest = refl; lines_settled = refl; rounds_settled = refl } },
                                           (
                                             (write 0 6, record { present = refl; granted = refl; purpose = inl (record { line = refl; alternative = refl; room = λ h. cc }); answers = (refl, refl, tt) }),
                                             (

@@ -44,11 +44,11 @@ no_write_to_a_held_line can = let quiet = can.held refl in cc
 
 pub highest_wins : Can given_up both_raised (Grant 3 1 10 2)
 unfolding lines_after driven_below rounds_from
-highest_wins = record { idle = refl; by_raised = refl; winner_raised = refl; winner_highest = refl; lines_settled = refl; rounds_settled = refl }
+highest_wins = record { idle = refl; by_raised = refl; wins = record { raised = refl; number_highest = refl; lines_settled = refl; rounds_settled = refl } }
 
 pub no_grant_to_another : (lines rounds : ℕ) → Can given_up both_raised (Grant 3 3 lines rounds) → ⊥
 unfolding lines_after driven_below rounds_from
-no_grant_to_another lines rounds can = let seven : ℕ = 7 in let same : seven ≡ 10 = can.winner_highest in cc
+no_grant_to_another lines rounds can = let seven : ℕ = 7 in let same : seven ≡ 10 = can.wins.number_highest in cc
 
 pub no_drop_of_an_owned_victim : Can victim_flush owned_victim (Drop 1 0 M) → ⊥
 unfolding lines_after driven_below rounds_from

@@ -20,7 +20,7 @@ write_through_word_plays =
       runs = (
         (write 0 5, record { present = refl; not_raised = refl; not_granted = refl; not_connected = refl; needs = refl }),
         (
-          record { idle = refl; by_raised = refl; winner_raised = refl; winner_highest = refl; lines_settled = refl; rounds_settled = refl },
+          record { idle = refl; by_raised = refl; wins = record { raised = refl; number_highest = refl; lines_settled = refl; rounds_settled = refl } },
           (
             (write 0 5, record { present = refl; granted = refl; purpose = inl (record { line = refl; alternative = refl; room = λ h. cc }); answers = tt }),
             (
@@ -28,7 +28,7 @@ write_through_word_plays =
               (
                 (read 0, record { present = refl; not_raised = refl; not_granted = refl; not_connected = refl; needs = refl }),
                 (
-                  record { idle = refl; by_raised = refl; winner_raised = refl; winner_highest = refl; lines_settled = refl; rounds_settled = refl },
+                  record { idle = refl; by_raised = refl; wins = record { raised = refl; number_highest = refl; lines_settled = refl; rounds_settled = refl } },
                   (
                     (read 0, record { present = refl; granted = refl; purpose = inl (record { line = refl; alternative = refl; room = λ h. cc }); answers = (refl, refl, tt) }),
                     (
@@ -36,7 +36,7 @@ write_through_word_plays =
                       (
                         (read 0, record { present = refl; not_raised = refl; not_granted = refl; not_connected = refl; needs = refl }),
                         (
-                          record { idle = refl; by_raised = refl; winner_raised = refl; winner_highest = refl; lines_settled = refl; rounds_settled = refl },
+                          record { idle = refl; by_raised = refl; wins = record { raised = refl; number_highest = refl; lines_settled = refl; rounds_settled = refl } },
                           (
                             (read 0, record { present = refl; granted = refl; purpose = inl (record { line = refl; alternative = refl; room = λ h. cc }); answers = (refl, refl, (refl, refl, tt)) }),
                             (
@@ -44,7 +44,7 @@ write_through_word_plays =
                               (
                                 (write 1 8, record { present = refl; not_raised = refl; not_granted = refl; not_connected = refl; needs = refl }),
                                 (
-                                  record { idle = refl; by_raised = refl; winner_raised = refl; winner_highest = refl; lines_settled = refl; rounds_settled = refl },
+                                  record { idle = refl; by_raised = refl; wins = record { raised = refl; number_highest = refl; lines_settled = refl; rounds_settled = refl } },
                                   (
                                     (write 1 8, record { present = refl; granted = refl; purpose = inl (record { line = refl; alternative = refl; room = λ h. cc }); answers = (refl, refl, (refl, refl, tt)) }),
                                     (
@@ -78,7 +78,7 @@ victim_flush_plays =
       runs = (
         (write 0 1, record { present = refl; not_raised = refl; not_granted = refl; not_connected = refl; needs = refl }),
         (
-          record { idle = refl; by_raised = refl; winner_raised = refl; winner_highest = refl; lines_settled = refl; rounds_settled = refl },
+          record { idle = refl; by_raised = refl; wins = record { raised = refl; number_highest = refl; lines_settled = refl; rounds_settled = refl } },
           (
             (write 0 1, record { present = refl; granted = refl; purpose = inl (record { line = refl; alternative = refl; room = λ h. cc }); answers = tt }),
             (
@@ -86,7 +86,7 @@ victim_flush_plays =
               (
                 (write 4 2, record { present = refl; not_raised = refl; not_granted = refl; not_connected = refl; needs = refl }),
                 (
-                  record { idle = refl; by_raised = refl; winner_raised = refl; winner_highest = refl; lines_settled = refl; rounds_settled = refl },
+                  record { idle = refl; by_raised = refl; wins = record { raised = refl; number_highest = refl; lines_settled = refl; rounds_settled = refl } },
                   (
                     (write 4 2, record { present = refl; granted = refl; purpose = inr (record { wants = refl; victim = refl; owned = refl; event = refl; outcome = refl }); answers = tt }),
                     (
@@ -94,7 +94,7 @@ victim_flush_plays =
                       (
                         (write 4 2, record { present = refl; not_raised = refl; not_granted = refl; not_connected = refl; needs = refl }),
                         (
-                          record { idle = refl; by_raised = refl; winner_raised = refl; winner_highest = refl; lines_settled = refl; rounds_settled = refl },
+                          record { idle = refl; by_raised = refl; wins = record { raised = refl; number_highest = refl; lines_settled = refl; rounds_settled = refl } },
                           (
                             (write 4 2, record { present = refl; granted = refl; purpose = inl (record { line = refl; alternative = refl; room = λ h. cc }); answers = tt }),
                             (
@@ -124,7 +124,7 @@ given_up_plays =
       runs = (
         (write 0 5, record { present = refl; not_raised = refl; not_granted = refl; not_connected = refl; needs = refl }),
         (
-          record { idle = refl; by_raised = refl; winner_raised = refl; winner_highest = refl; lines_settled = refl; rounds_settled = refl },
+          record { idle = refl; by_raised = refl; wins = record { raised = refl; number_highest = refl; lines_settled = refl; rounds_settled = refl } },
           (
             (write 0 5, record { present = refl; granted = refl; purpose = inl (record { line = refl; alternative = refl; room = λ h. cc }); answers = tt }),
             (
@@ -132,7 +132,7 @@ given_up_plays =
               (
                 (read 0, record { present = refl; not_raised = refl; not_granted = refl; not_connected = refl; needs = refl }),
                 (
-                  record { idle = refl; by_raised = refl; winner_raised = refl; winner_highest = refl; lines_settled = refl; rounds_settled = refl },
+                  record { idle = refl; by_raised = refl; wins = record { raised = refl; number_highest = refl; lines_settled = refl; rounds_settled = refl } },
                   (
                     (read 0, record { present = refl; granted = refl; purpose = inl (record { line = refl; alternative = refl; room = λ h. cc }); answers = (refl, refl, tt) }),
                     (
@@ -140,7 +140,7 @@ given_up_plays =
                       (
                         (write 0 6, record { present = refl; not_raised = refl; not_granted = refl; not_connected = refl; needs = refl }),
                         (
-                          record { idle = refl; by_raised = refl; winner_raised = refl; winner_highest = refl; lines_settled = refl; rounds_settled = refl },
+                          record { idle = refl; by_raised = refl; wins = record { raised = refl; number_highest = refl; lines_settled = refl; rounds_settled = refl } },
                           (
                             (flush 0, record { present = refl; not_raised = refl; not_granted = refl; not_connected = refl; needs = refl }),
                             (
@@ -150,11 +150,11 @@ given_up_plays =
                                 (
                                   (read 4, record { present = refl; not_raised = refl; not_granted = refl; not_connected = refl; needs = refl }),
                                   (
-                                    record { idle = refl; by_raised = refl; winner_raised = refl; winner_highest = refl; lines_settled = refl; rounds_settled = refl },
+                                    record { idle = refl; by_raised = refl; wins = record { raised = refl; number_highest = refl; lines_settled = refl; rounds_settled = refl } },
                                     (
                                       record { present = refl; not_connected = refl; state = refl; alternative = refl; held = λ h. refl; reply = refl },
                                       (
-                                        record { idle = refl; by_raised = refl; winner_raised = refl; winner_highest = refl; lines_settled = refl; rounds_settled = refl },
+                                        record { idle = refl; by_raised = refl; wins = record { raised = refl; number_highest = refl; lines_settled = refl; rounds_settled = refl } },
                                         (
                                           (read 4, record { present = refl; granted = refl; purpose = inl (record { line = refl; alternative = refl; room = λ h. cc }); answers = tt }),
                                           (
@@ -191,7 +191,7 @@ alternation_plays =
       runs = (
         (write 0 1, record { present = refl; not_raised = refl; not_granted = refl; not_connected = refl; needs = refl }),
         (
-          record { idle = refl; by_raised = refl; winner_raised = refl; winner_highest = refl; lines_settled = refl; rounds_settled = refl },
+          record { idle = refl; by_raised = refl; wins = record { raised = refl; number_highest = refl; lines_settled = refl; rounds_settled = refl } },
           (
             (write 0 1, record { present = refl; granted = refl; purpose = inl (record { line = refl; alternative = refl; room = λ h. cc }); answers = tt }),
             (
@@ -199,7 +199,7 @@ alternation_plays =
               (
                 (write 0 2, record { present = refl; not_raised = refl; not_granted = refl; not_connected = refl; needs = refl }),
                 (
-                  record { idle = refl; by_raised = refl; winner_raised = refl; winner_highest = refl; lines_settled = refl; rounds_settled = refl },
+                  record { idle = refl; by_raised = refl; wins = record { raised = refl; number_highest = refl; lines_settled = refl; rounds_settled = refl } },
                   (
                     (write 0 2, record { present = refl; granted = refl; purpose = inl (record { line = refl; alternative = refl; room = λ h. cc }); answers = tt }),
                     (

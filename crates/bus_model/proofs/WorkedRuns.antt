@@ -23,7 +23,7 @@ intervention_plays =
       runs = (
         (write 5 7, record { present = refl; not_raised = refl; not_granted = refl; not_connected = refl; needs = refl }),
         (
-          record { idle = refl; by_raised = refl; winner_raised = refl; winner_highest = refl; lines_settled = refl; rounds_settled = refl },
+          record { idle = refl; by_raised = refl; wins = record { raised = refl; number_highest = refl; lines_settled = refl; rounds_settled = refl } },
           (
             (write 5 7, record { present = refl; granted = refl; purpose = inl (record { line = refl; alternative = refl; room = λ h. cc }); answers = tt }),
             (
@@ -31,7 +31,7 @@ intervention_plays =
               (
                 (read 5, record { present = refl; not_raised = refl; not_granted = refl; not_connected = refl; needs = refl }),
                 (
-                  record { idle = refl; by_raised = refl; winner_raised = refl; winner_highest = refl; lines_settled = refl; rounds_settled = refl },
+                  record { idle = refl; by_raised = refl; wins = record { raised = refl; number_highest = refl; lines_settled = refl; rounds_settled = refl } },
                   (
                     (read 5, record { present = refl; granted = refl; purpose = inl (record { line = refl; alternative = refl; room = λ h. cc }); answers = (refl, refl, tt) }),
                     (
@@ -57,7 +57,7 @@ broadcast_plays =
       runs = (
         (write 0 5, record { present = refl; not_raised = refl; not_granted = refl; not_connected = refl; needs = refl }),
         (
-          record { idle = refl; by_raised = refl; winner_raised = refl; winner_highest = refl; lines_settled = refl; rounds_settled = refl },
+          record { idle = refl; by_raised = refl; wins = record { raised = refl; number_highest = refl; lines_settled = refl; rounds_settled = refl } },
           (
             (write 0 5, record { present = refl; granted = refl; purpose = inl (record { line = refl; alternative = refl; room = λ h. cc }); answers = tt }),
             (
@@ -65,7 +65,7 @@ broadcast_plays =
               (
                 (read 0, record { present = refl; not_raised = refl; not_granted = refl; not_connected = refl; needs = refl }),
                 (
-                  record { idle = refl; by_raised = refl; winner_raised = refl; winner_highest = refl; lines_settled = refl; rounds_settled = refl },
+                  record { idle = refl; by_raised = refl; wins = record { raised = refl; number_highest = refl; lines_settled = refl; rounds_settled = refl } },
                   (
                     (read 0, record { present = refl; granted = refl; purpose = inl (record { line = refl; alternative = refl; room = λ h. cc }); answers = (refl, refl, tt) }),
                     (
@@ -73,7 +73,7 @@ broadcast_plays =
                       (
                         (write 1 6, record { present = refl; not_raised = refl; not_granted = refl; not_connected = refl; needs = refl }),
                         (
-                          record { idle = refl; by_raised = refl; winner_raised = refl; winner_highest = refl; lines_settled = refl; rounds_settled = refl },
+                          record { idle = refl; by_raised = refl; wins = record { raised = refl; number_highest = refl; lines_settled = refl; rounds_settled = refl } },
                           (
                             (write 1 6, record { present = refl; granted = refl; purpose = inl (record { line = refl; alternative = refl; room = λ h. cc }); answers = (refl, refl, tt) }),
                             (
@@ -81,7 +81,7 @@ broadcast_plays =
                               (
                                 (read 0, record { present = refl; not_raised = refl; not_granted = refl; not_connected = refl; needs = refl }),
                                 (
-                                  record { idle = refl; by_raised = refl; winner_raised = refl; winner_highest = refl; lines_settled = refl; rounds_settled = refl },
+                                  record { idle = refl; by_raised = refl; wins = record { raised = refl; number_highest = refl; lines_settled = refl; rounds_settled = refl } },
                                   (
                                     (read 0, record { present = refl; granted = refl; purpose = inl (record { line = refl; alternative = refl; room = λ h. cc }); answers = (refl, refl, (refl, refl, tt)) }),
                                     (
@@ -115,7 +115,7 @@ no_hit_plays =
       runs = (
         (read 4, record { present = refl; not_raised = refl; not_granted = refl; not_connected = refl; needs = refl }),
         (
-          record { idle = refl; by_raised = refl; winner_raised = refl; winner_highest = refl; lines_settled = refl; rounds_settled = refl },
+          record { idle = refl; by_raised = refl; wins = record { raised = refl; number_highest = refl; lines_settled = refl; rounds_settled = refl } },
           (
             (read 4, record { present = refl; granted = refl; purpose = inl (record { line = refl; alternative = refl; room = λ h. cc }); answers = tt }),
             (
@@ -123,7 +123,7 @@ no_hit_plays =
               (
                 (read 0, record { present = refl; not_raised = refl; not_granted = refl; not_connected = refl; needs = refl }),
                 (
-                  record { idle = refl; by_raised = refl; winner_raised = refl; winner_highest = refl; lines_settled = refl; rounds_settled = refl },
+                  record { idle = refl; by_raised = refl; wins = record { raised = refl; number_highest = refl; lines_settled = refl; rounds_settled = refl } },
                   (
                     (read 0, record { present = refl; granted = refl; purpose = inl (record { line = refl; alternative = refl; room = λ h. cc }); answers = tt }),
                     (
@@ -131,7 +131,7 @@ no_hit_plays =
                       (
                         (read 0, record { present = refl; not_raised = refl; not_granted = refl; not_connected = refl; needs = refl }),
                         (
-                          record { idle = refl; by_raised = refl; winner_raised = refl; winner_highest = refl; lines_settled = refl; rounds_settled = refl },
+                          record { idle = refl; by_raised = refl; wins = record { raised = refl; number_highest = refl; lines_settled = refl; rounds_settled = refl } },
                           (
                             (read 0, record { present = refl; granted = refl; purpose = inl (record { line = refl; alternative = refl; room = λ h. cc }); answers = (refl, refl, tt) }),
                             (
@@ -161,7 +161,7 @@ gap_plays =
       runs = (
         (read 0, record { present = refl; not_raised = refl; not_granted = refl; not_connected = refl; needs = refl }),
         (
-          record { idle = refl; by_raised = refl; winner_raised = refl; winner_highest = refl; lines_settled = refl; rounds_settled = refl },
+          record { idle = refl; by_raised = refl; wins = record { raised = refl; number_highest = refl; lines_settled = refl; rounds_settled = refl } },
           (
             (read 0, record { present = refl; granted = refl; purpose = inl (record { line = refl; alternative = refl; room = λ h. cc }); answers = tt }),
             (
@@ -169,7 +169,7 @@ gap_plays =
               (
                 (read 0, record { present = refl; not_raised = refl; not_granted = refl; not_connected = refl; needs = refl }),
                 (
-                  record { idle = refl; by_raised = refl; winner_raised = refl; winner_highest = refl; lines_settled = refl; rounds_settled = refl },
+                  record { idle = refl; by_raised = refl; wins = record { raised = refl; number_highest = refl; lines_settled = refl; rounds_settled = refl } },
                   (
                     (read 0, record { present = refl; granted = refl; purpose = inl (record { line = refl; alternative = refl; room = λ h. cc }); answers = (refl, refl, tt) }),
                     (
@@ -177,7 +177,7 @@ gap_plays =
                       (
                         (write 0 9, record { present = refl; not_raised = refl; not_granted = refl; not_connected = refl; needs = refl }),
                         (
-                          record { idle = refl; by_raised = refl; winner_raised = refl; winner_highest = refl; lines_settled = refl; rounds_settled = refl },
+                          record { idle = refl; by_raised = refl; wins = record { raised = refl; number_highest = refl; lines_settled = refl; rounds_settled = refl } },
                           (
                             (write 0 9, record { present = refl; granted = refl; purpose = inl (record { line = refl; alternative = refl; room = λ h. cc }); answers = (refl, refl, tt) }),
                             (
@@ -207,7 +207,7 @@ quiet_read_plays =
       runs = (
         (read 0, record { present = refl; not_raised = refl; not_granted = refl; not_connected = refl; needs = refl }),
         (
-          record { idle = refl; by_raised = refl; winner_raised = refl; winner_highest = refl; lines_settled = refl; rounds_settled = refl },
+          record { idle = refl; by_raised = refl; wins = record { raised = refl; number_highest = refl; lines_settled = refl; rounds_settled = refl } },
           (
             (read 0, record { present = refl; granted = refl; purpose = inl (record { line = refl; alternative = refl; room = λ h. cc }); answers = tt }),
             (
@@ -215,7 +215,7 @@ quiet_read_plays =
               (
                 (read 0, record { present = refl; not_raised = refl; not_granted = refl; not_connected = refl; needs = refl }),
                 (
-                  record { idle = refl; by_raised = refl; winner_raised = refl; winner_highest = refl; lines_settled = refl; rounds_settled = refl },
+                  record { idle = refl; by_raised = refl; wins = record { raised = refl; number_highest = refl; lines_settled = refl; rounds_settled = refl } },
                   (
                     (read 0, record { present = refl; granted = refl; purpose = inl (record { line = refl; alternative = refl; room = λ h. cc }); answers = (refl, refl, tt) }),
                     (

@@ -8,13 +8,12 @@ use Rattle.moesi_state.specs.declared.Outcome.TheVariants.{Fixed}
 use Rattle.moesi_state.specs.States.{owns, same_state}
 use Rattle.moesi_state.specs.Outcomes.{is_invalid}
 use Rattle.class_relation.specs.Actions.{has_local, silently}
-use Rattle.bus_model.specs.Setup.{Setup, number_of}
+use Rattle.bus_model.specs.Setup.{Setup}
 use Rattle.bus_model.specs.Events.{Event, Local, Drop, Raise, Grant, Connect, DataPhase, Done, Transaction, Carried}
 use Rattle.bus_model.specs.Configuration.{Row, Configuration, Idle, Granted, Connected, state_at, words_at, present_access, is_raised, is_granted, is_connected, is_held}
 use Rattle.bus_model.specs.Board.{access_line, cell_of, needs_bus, wants_row, is_full, victim, is_clean}
 use Rattle.bus_model.specs.Effects.{complete, spend, ask, answered, in_phase, without_grant, change_rows, put_copy, drop_copy, put_memory}
-use Rattle.settling.specs.Settling.{highest, settled_lines, settled_rounds}
-use Rattle.bus_model.specs.Arbitration.{competing_numbers}
+use Rattle.bus_model.specs.Arbitration.{Wins}
 use Rattle.bus_model.specs.Connecting.{other_holders, AnswersFit}
 use Rattle.bus_model.specs.Carrying.{source_of, takers_of, states_of, source_words, written, reply_of, done_of, master_words, memory_words, answering_row, state_of_master}
 
@@ -51,14 +50,11 @@ pub record CanRaise (setup : Setup) (c : Configuration) (board : ℕ) (access : 
   pub not_connected : IsFalse (is_connected c.phase board)
   pub needs : IsTrue (needs_bus setup c.rows board access)
 
--- The bus may be granted to the competing board with the highest number.
+-- The bus may be granted to the board that wins it.
 pub record CanGrant (setup : Setup) (c : Configuration) (by winner lines rounds : ℕ) : Type 0 where
   pub idle : c.phase ≡ Idle
   pub by_raised : IsTrue (is_raised c.boards by)
-  pub winner_raised : IsTrue (is_raised c.boards winner)
-  pub winner_highest : number_of setup winner ≡ highest (competing_numbers setup c.boards)
-  pub lines_settled : lines ≡ settled_lines (competing_numbers setup c.boards)
-  pub rounds_settled : rounds ≡ settled_rounds (competing_numbers setup c.boards)
+  pub wins : Wins setup c.boards winner lines rounds
 
 -- A transaction serves the master's access: it is an alternative of the master's cell, and there is room for the row that it may bring.
 pub record ForAccess (setup : Setup) (rows : List Row) (t : Transaction) (access : Access) : Type 0 where

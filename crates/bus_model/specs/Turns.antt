@@ -20,8 +20,8 @@ use Rattle.bus_model.specs.Setup.{Setup, Choose, First, Round, Seed, choose_of, 
 use Rattle.bus_model.specs.Events.{Event, Local, Drop, Raise, Grant, Connect, DataPhase, Transaction}
 use Rattle.bus_model.specs.Configuration.{Configuration, Phase, Idle, Granted, Connected, opening, state_at, words_at, progress_of, present_access, is_raised, is_granted, is_held}
 use Rattle.bus_model.specs.Board.{access_line, cell_of, victim, is_clean}
-use Rattle.settling.specs.Settling.{highest, settled_lines, settled_rounds}
-use Rattle.bus_model.specs.Arbitration.{competing, competing_numbers}
+use Rattle.settling.specs.Settling.{settled_lines, settled_rounds}
+use Rattle.bus_model.specs.Arbitration.{competing_numbers, winner_of}
 use Rattle.bus_model.specs.Connecting.{other_holders}
 use Rattle.bus_model.specs.Carrying.{carried_of, reply_of}
 use Rattle.bus_model.specs.Steps.{is_quiet, after}
@@ -61,10 +61,6 @@ transaction_of setup c board line event outcome = record {
   answers = map (λ other. record { board = other; action = decide_answer setup c other line event }) (other_holders setup c.rows board line);
 }
 
--- The board that wins the bus: the competing one with the highest number.
-abbrev pub winner_of : Setup → Configuration → ℕ
-winner_of setup c = unwrap_or (find (λ board. number_of setup board == highest (competing_numbers setup c.boards)) (competing setup c.boards)) 0
-
 -- Why a board waits: another board's transaction is connected on the line, or has the bus.
 pub data Why : Type 0 where
   LineHeld : (master : ℕ) → (line : ℕ) → Why
@@ -101,7 +97,7 @@ local_turn setup c board access state =
 abbrev pub grant_turn : Setup → Configuration → ℕ → Turn
 grant_turn setup c board =
     let numbers = competing_numbers setup c.boards in
-    Did (Grant board (winner_of setup c) (settled_lines numbers) (settled_rounds numbers))
+    Did (Grant board (winner_of setup c.boards) (settled_lines numbers) (settled_rounds numbers))
 
 -- A turn of a board that has no grant and needs the bus: it raises a request (case 6), with a request raised it grants the bus where the bus is idle (case 7), and else it waits (case 8).
 abbrev pub request_turn : Setup → Configuration → ℕ → Bool → Phase → Turn

@@ -1,6 +1,6 @@
 -- What a turn does from a sound configuration is a step.
 use Rattle.settling.specs.Settling.{highest}
-use Rattle.bus_model.specs.Arbitration.{competing, competing_numbers}
+use Rattle.bus_model.specs.Arbitration.{competing, competing_numbers, winner_of}
 use Rattle.bus_model.specs.Board.{access_line, cell_of, is_clean, is_full, needs_bus, victim}
 use Rattle.bus_model.specs.Carrying.{carried_of, reply_of}
 use Rattle.bus_model.specs.Coherence.{LineCoherent}
@@ -12,7 +12,7 @@ use Rattle.bus_model.specs.Laws.{TurnsAreSteps}
 use Rattle.bus_model.specs.Setup.{AllInClass, Setup, WellFormed, board_places, choose_of, line_count, number_of, table_of}
 use Rattle.bus_model.specs.Soundness.{Sound}
 use Rattle.bus_model.specs.Steps.{Can, ForVictim, is_quiet}
-use Rattle.bus_model.specs.Turns.{Did, LineHeld, Waits, access_turn, action_turn, bus_holder, bus_turn, decide, decide_answer, local_turn, own_transaction, request_turn, room_turn, transaction_of, transaction_turn, turn_for, victim_for, winner_of}
+use Rattle.bus_model.specs.Turns.{Did, LineHeld, Waits, access_turn, action_turn, bus_holder, bus_turn, decide, decide_answer, local_turn, own_transaction, request_turn, room_turn, transaction_of, transaction_turn, turn_for, victim_for}
 use Rattle.bus_signals.specs.Accesses.{kind_of}
 use Rattle.bus_signals.specs.declared.Access.{Access}
 use Rattle.bus_signals.specs.declared.BusEvent.{BusEvent}
@@ -170,14 +170,14 @@ highest-in f (a ∷ (b ∷ rest)) x h = go (highest-in f (b ∷ rest) b (inl ref
         pick_one (inr k) = (a, inl refl, omega (arith, r.2))
 
 -- The winner of the bus has raised a request, and has the highest number.
-winner_is : (setup : Setup) (c : Configuration) (board : ℕ) → IsPlace (length setup.boards) board → is_raised c.boards board ≡ true → (is_raised c.boards (winner_of setup c) ≡ true) × (number_of setup (winner_of setup c) ≡ highest (competing_numbers setup c.boards))
+winner_is : (setup : Setup) (c : Configuration) (board : ℕ) → IsPlace (length setup.boards) board → is_raised c.boards board ≡ true → (is_raised c.boards (winner_of setup c.boards) ≡ true) × (number_of setup (winner_of setup c.boards) ≡ highest (competing_numbers setup c.boards))
 winner_is setup c board there raised =
     let test = λ (b : ℕ). number_of setup b == highest (competing_numbers setup c.boards) in
     let here : In board (competing setup c.boards) = filter-in (λ b. is_raised c.boards b) (board_places setup) board (places-in setup.boards 1 board there.low (omega (arith, there.high))) raised in
     let best = highest-in (λ b. number_of setup b) (competing setup c.boards) board here in
     let found = find-in test (competing setup c.boards) best.0 best.1 (eq-eqb (number_of setup best.0) (highest (competing_numbers setup c.boards)) best.2) in
     let member = in-find test (competing setup c.boards) found.0 found.1 in
-    let winner : winner_of setup c ≡ found.0 = ap (λ o. unwrap_or o 0) found.1 in (
+    let winner : winner_of setup c.boards ≡ found.0 = ap (λ o. unwrap_or o 0) found.1 in (
       ap (is_raised c.boards) winner ∙ (in-filter (λ b. is_raised c.boards b) (board_places setup) found.0 member.0).1,
       ap (number_of setup) winner ∙ eqb-true (number_of setup found.0) (highest (competing_numbers setup c.boards)) member.1,
     )
@@ -257,10 +257,7 @@ module _ (setup : Setup) (events : List Event) (c : Configuration) (well : WellF
         subst (Can setup c) (did_same _ event did) (record {
           idle = f;
           by_raised = e;
-          winner_raised = win.0;
-          winner_highest = win.1;
-          lines_settled = refl;
-          rounds_settled = refl;
+          wins = record { raised = win.0; number_highest = win.1; lines_settled = refl; rounds_settled = refl };
         })
     request_case needs not_granted true e (Granted b) f event did = cc
     request_case needs not_granted true e (Connected t) f event did = cc

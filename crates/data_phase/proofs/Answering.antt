@@ -8,9 +8,9 @@ use Rattle.moesi_state.specs.States.{holds}
 use Rattle.journal.specs.Rising.{IsRising}
 use Rattle.journal.specs.Boards.{answer_boards}
 use Rattle.bus_signals.specs.declared.BusEvent.{BusEvent}
-use Rattle.bus_signals.specs.declared.BusEvent.TheVariants.{Rd, Rfo, Inv, Urd, Bwr, Uwr, Ubw, Pas, Flu}
+use Rattle.bus_signals.specs.Meanings.{reads}
 use Rattle.bus_model.specs.Connecting.{intervener}
-use Rattle.bus_model.specs.Events.{Answer, Board}
+use Rattle.bus_model.specs.Events.{Answer, Board, Nobody}
 use Rattle.bus_model.specs.Configuration.{Row, is_copy}
 use Rattle.bus_model.specs.Effects.{row_as}
 use Rattle.bus_model.specs.Carrying.{source_of, intervener_or_memory}
@@ -132,12 +132,8 @@ read-by None b e = cc
 read-by (Some x) b e = let same : b ≡ x = cc in rw same refl
 
 pub source-board : (rack : Rack) (master : ℕ) (event : BusEvent) (answers : List Answer) (b : ℕ) → AreOthers rack master answers → Board b ≡ source_of event answers → IsBoard rack b
-source-board rack master Rd answers b h e = found-board rack master answers b h (read-by (intervener answers) b e)
-source-board rack master Rfo answers b h e = found-board rack master answers b h (read-by (intervener answers) b e)
-source-board rack master Urd answers b h e = found-board rack master answers b h (read-by (intervener answers) b e)
-source-board rack master Inv answers b h e = cc
-source-board rack master Bwr answers b h e = cc
-source-board rack master Uwr answers b h e = cc
-source-board rack master Ubw answers b h e = cc
-source-board rack master Pas answers b h e = cc
-source-board rack master Flu answers b h e = cc
+source-board rack master event answers b h e = go (reads event) e
+  where
+    go : (reading : Bool) → Board b ≡ cond reading (intervener_or_memory (intervener answers)) Nobody → IsBoard rack b
+    go true e = found-board rack master answers b h (read-by (intervener answers) b e)
+    go false e = cc

@@ -9,8 +9,8 @@ ghost use Rattle.board.specs.Rack.{IsBoard, can_fill, counts_at, setup_of};
 ghost use Rattle.data_phase.specs.Seen.{AreOthers, Shows, carried_for, rack_after, seen, change_by, change_for, change_of, is_taker, rack_given_all, AllAreBoards};
 
 use crate::parts::{
-    carried_source, carried_states, carried_takers, copy_words, done_for, fills_row, get_memory,
-    put_memory, settled_state, writes_line, written_by,
+    carried_source, carried_states, carried_takers, copy_words, done_for, get_memory,
+    put_memory, settled_state, written_by,
 };
 use board::{Change, Rack};
 use bus_signals::{Access, Addr, BoardNo, LineNo};
@@ -92,7 +92,7 @@ fn own_words(rack: &Rack, connected: &Connected, moved: [u32; 4], done: &Option<
     requires { IsBoard rack.now connected.now.master }
     ensures { result ≡ written_by done.now (if fills_row connected.now.event then moved else words_at rack.now.rows connected.now.master connected.now.line) }
 {
-    if fills_row(connected.event) {
+    if connected.event.fills_row() {
         written_by(done, moved)
     } else {
         written_by(done, copy_words(rack, connected.master, connected.line))
@@ -113,7 +113,7 @@ fn remember(
     if !takes {
         return;
     }
-    if writes_line(connected.event) {
+    if connected.event.writes_line() {
         put_memory(memory, connected.line, words);
     } else {
         let stored = written_by(done, get_memory(memory, connected.line));

@@ -2,12 +2,12 @@
 
 ghost use Rattle.std.specs.Prelude.{◌≡◌, ◌*◌, ◌<◌, [], length, slice_set};
 ghost use Rattle.bus_model.specs.Configuration.{lines_of_words, memory_line, words_at};
-ghost use Rattle.bus_model.specs.Carrying.{source_of, takers_of, states_of, master_state, fills_row, writes_line, written, done_of, written_by, with_memory, intervener_takes};
+ghost use Rattle.bus_model.specs.Carrying.{source_of, takers_of, states_of, master_state, written, done_of, written_by, with_memory, intervener_takes};
 ghost use Rattle.bus_model.specs.Connecting.{intervener, capturers};
 ghost use Rattle.board.specs.Rack.{IsBoard};
 
 use board::Rack;
-use bus_signals::{Access, BoardNo, BusEvent, LineNo};
+use bus_signals::{Access, BoardNo, LineNo};
 use connect_phase::{intervener, response};
 use journal::{Connected, Done, Places, Source, States, Takers};
 use memory_board::MemoryBoard;
@@ -17,12 +17,12 @@ use moesi_state::State;
 pub fn carried_source(connected: &Connected) -> Source
     ensures { result ≡ source_of connected.now.event connected.now.answers }
 {
-    match connected.event {
-        BusEvent::Rd | BusEvent::Rfo | BusEvent::Urd => match intervener(connected) {
-            Some(board) => Source::Board(board),
-            None => Source::Memory,
-        },
-        _ => Source::Nobody,
+    if !connected.event.reads() {
+        return Source::Nobody;
+    }
+    match intervener(connected) {
+        Some(board) => Source::Board(board),
+        None => Source::Memory,
     }
 }
 
@@ -73,14 +73,18 @@ fn plain_takers(connected: &Connected) -> Takers
 pub fn carried_takers(connected: &Connected) -> Takers
     ensures { result ≡ takers_of connected.now.event connected.now.answers }
 {
-    match connected.event {
-        BusEvent::Bwr | BusEvent::Ubw => broadcast_takers(connected),
-        BusEvent::Uwr => plain_takers(connected),
-        BusEvent::Pas | BusEvent::Flu => memory_takes(),
-        BusEvent::Rd | BusEvent::Rfo | BusEvent::Urd | BusEvent::Inv => Takers {
-            memory: false,
-            boards: Places::new(),
-        },
+    if connected.event.broadcasts() {
+        return broadcast_takers(connected);
+    }
+    if connected.event.writes_plain_word() {
+        return plain_takers(connected);
+    }
+    if connected.event.writes_line() {
+        return memory_takes();
+    }
+    Takers {
+        memory: false,
+        boards: Places::new(),
     }
 }
 
@@ -101,20 +105,6 @@ pub fn carried_states(connected: &Connected) -> States
         states.push((answer.board, answer.action.result));
     }
     states
-}
-
-/// Whether the line that is moved becomes the master's row.
-pub fn fills_row(event: BusEvent) -> bool
-    ensures { result ≡ fills_row event }
-{
-    matches!(event, BusEvent::Rd | BusEvent::Rfo)
-}
-
-/// Whether memory takes the master's whole line.
-pub fn writes_line(event: BusEvent) -> bool
-    ensures { result ≡ writes_line event }
-{
-    matches!(event, BusEvent::Pas | BusEvent::Flu)
 }
 
 /// The words of a board's copy of a line, or four words 0 where there is no row.

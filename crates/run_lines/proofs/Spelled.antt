@@ -141,12 +141,12 @@ module _ (setup : Setup) (events : List Event) (c : Configuration) (well : WellF
       (board_is setup board well (board_there setup c.boards board can.0 well can.1.present), victim_line board (access_line can.0) line before can.1.victim)
   step_is (Raise board) can typed = board_is setup board well (board_there setup c.boards board can.0 well can.1.present)
   step_is (Grant by winner lines rounds) can typed =
-      let there = raised_is setup c winner s.parts can.winner_raised in
-      let shown = settled _ (contest setup c.boards winner well there can.winner_raised) in (
+      let there = raised_is setup c winner s.parts can.wins.raised in
+      let shown = settled _ (contest setup c.boards winner well there can.wins.raised) in (
         board_is setup by well (raised_is setup c by s.parts can.by_raised),
         board_is setup winner well there,
-        (omega (arith, can.lines_settled, shown.low), omega (arith, can.lines_settled, shown.high)),
-        omega (arith, can.rounds_settled, shown.rounds),
+        (omega (arith, can.wins.lines_settled, shown.low), omega (arith, can.wins.lines_settled, shown.high)),
+        omega (arith, can.wins.rounds_settled, shown.rounds),
       )
   step_is (Connect t) can typed = connect_is t can.0 can.1 typed
   step_is (DataPhase e) can typed = data_is e can.0 can.1 typed

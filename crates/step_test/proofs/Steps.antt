@@ -82,8 +82,8 @@ grant_decided : (setup : Setup) (c : Configuration) (by winner lines rounds : �
 grant_decided setup c by winner lines rounds =
     let numbers : List ℕ = competing_numbers setup c.boards in
     known_as
-    (λ h. record { idle = h.0; by_raised = h.1.0; winner_raised = h.1.1.0; winner_highest = h.1.1.1.0; lines_settled = h.1.1.1.1.0; rounds_settled = h.1.1.1.1.1 })
-    (λ can. (can.idle, (can.by_raised, (can.winner_raised, (can.winner_highest, (can.lines_settled, can.rounds_settled))))))
+    (λ h. record { idle = h.0; by_raised = h.1.0; wins = record { raised = h.1.1.0; number_highest = h.1.1.1.0; lines_settled = h.1.1.1.1.0; rounds_settled = h.1.1.1.1.1 } })
+    (λ can. (can.idle, (can.by_raised, (can.wins.raised, (can.wins.number_highest, (can.wins.lines_settled, can.wins.rounds_settled))))))
     (known_both (idle_decided c.phase)
     (known_both (known_true (is_raised c.boards by))
     (known_both (known_true (is_raised c.boards winner))
