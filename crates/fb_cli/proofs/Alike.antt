@@ -21,9 +21,10 @@ use Rattle.run_text.specs.RunText.{run_text, ending}
 use Rattle.fb_cli.specs.declared.role.Role.{Role}
 use Rattle.fb_cli.specs.declared.role.Role.TheVariants as roles
 use Rattle.fb_cli.specs.Report.{is_accepted}
-use Rattle.fb_cli.specs.Output.{Output, limit_of, within, on_read, on_replayed, if_accepted, traced_output, replay_output, report_output}
-use Rattle.fb_cli.specs.Opening.{AreSetup}
-use Rattle.fb_cli.specs.Headline.{RunHolds, IsReplayedAlike}
+use Rattle.fb_cli.specs.Output.{Output, limit_of, within, on_read, if_accepted, with_accepted, report_output}
+use Rattle.fb_cli.specs.Replies.{AreSetup}
+use Rattle.fb_cli.specs.Replay.{on_replayed, trace_output, replay_output}
+use Rattle.fb_cli.specs.Headline.{RunHolds}
 use Rattle.fb_cli.proofs.AcceptedTables.{all-accepted}
 
 -- The line `end` is its word and a line feed.
@@ -48,11 +49,17 @@ run_replayed setup events holds =
 pub is_within : (role : Role) (bytes : List ℕ) (wanted : Output) → length bytes ≤ limit_of role → within role bytes wanted ≡ wanted
 is_within role bytes wanted short = let no : nat_lt (limit_of role) (length bytes) ≡ false = grind (arith, nat_tests) in rw no refl
 
+-- The output that an accepted setup of a file asks for.
+pub with_accepted_is : (bytes : List ℕ) (setup : Setup) (wanted : Setup → Output) → AreSetup setup bytes → list_all is_accepted setup.tables ≡ true → with_accepted bytes wanted ≡ wanted setup
+with_accepted_is bytes setup wanted read accepted =
+    is_within roles.Setup bytes (on_read roles.Setup (λ s. if_accepted s (wanted s)) (setup_at (unread bytes))) read.0
+    ∙ (ap (on_read roles.Setup (λ s. if_accepted s (wanted s))) read.1
+    ∙ ap (λ b. if b then wanted setup else report_output setup.tables) accepted)
+
 pub replayed_alike : (bytes : List ℕ) (setup : Setup) (events : List Event) → AreSetup setup bytes → RunHolds setup events
-    → IsReplayedAlike bytes setup (run_text setup events (after_all (opening setup) events)) events
+    → replay_output bytes (run_text setup events (after_all (opening setup) events)) ≡ record { status = 0; text = ending setup events (after_all (opening setup) events) }
 replayed_alike bytes setup events read holds =
     let text = run_text setup events (after_all (opening setup) events) in
-    is_within roles.Setup bytes (on_read roles.Setup (traced_output text) (setup_at (unread bytes))) read.0
-    ∙ (ap (on_read roles.Setup (traced_output text)) read.1
-    ∙ (ap (λ b. if b then within roles.Trace text (on_replayed (replayed (opened setup) text)) else report_output setup.tables) (all-accepted setup.tables holds.accepted)
-    ∙ ap (λ came. within roles.Trace text (on_replayed came)) (run_replayed setup events holds)))
+    with_accepted_is bytes setup (λ s. trace_output (opened s) text) read (all-accepted setup.tables holds.accepted)
+    ∙ (is_within roles.Trace text (on_replayed (replayed (opened setup) text)) holds.short
+    ∙ ap on_replayed (run_replayed setup events holds))

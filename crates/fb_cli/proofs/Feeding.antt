@@ -5,7 +5,14 @@ use Rattle.std.specs.Io.KnownBytes.{Consumes}
 use Rattle.std.proofs.KnownBytes.{Consumes-trans}
 use Rattle.std.proofs.lemmas.List.{length-append}
 use Rattle.replayer.specs.Standing.{Replaying, StandsFor}
-use Rattle.fb_cli.specs.Opening.{FedWith, HasRead}
+use Rattle.fb_cli.specs.Replay.{FedWith}
+
+-- A replay was fed with so many bytes of these, of which the rest is left.
+pub record HasRead (before now : Replaying) (taken : ℕ) (bytes : List ℕ) (rest : Option (List ℕ)) : Type 0 where
+  pub text : List ℕ
+  pub fed : FedWith before text now
+  pub consumed : Consumes (Some bytes) rest text
+  pub counted : length text ≡ taken
 
 -- One more piece.
 pub more_read : (file : Option (List ℕ)) (before mid now : Replaying) (taken count : ℕ) (rest left : Option (List ℕ)) (piece : List ℕ)

@@ -1,6 +1,5 @@
 -- The report of the checker on tables.
 use Rattle.std.specs.Prelude.{ℕ, ◌-◌, Bool, ◌&&◌, List, [], ◌∷◌, ◌++◌, Option, None, Some, length, flat_map, slice_get, nat_eq, codes, decimal, if◌then◌else◌}
-use Rattle.std.specs.List.{list_all}
 use Rattle.fb_text.specs.Places.{Words}
 use Rattle.fb_text.specs.Written.{line_bytes}
 use Rattle.class_relation.specs.declared.Cell.{Cell}
@@ -47,13 +46,9 @@ verdict_line name found = codes "table" ∷ (name ++ codes ":") ∷ verdict_word
 abbrev pub fault_bytes : Table → CellFault → List ℕ
 fault_bytes table fault = line_bytes (fault_line table fault)
 
--- The report on a table with these faults: the verdict, and a line for each fault.
-abbrev pub report_of : Table → List CellFault → List ℕ
-report_of table found = line_bytes (verdict_line table.name found) ++ flat_map (fault_bytes table) found
-
--- The report on a table.
+-- The report on a table: the verdict, and a line for each fault.
 abbrev pub report_on : Table → List ℕ
-report_on table = report_of table (faults table)
+report_on table = line_bytes (verdict_line table.name (faults table)) ++ flat_map (fault_bytes table) (faults table)
 
 -- The report on tables, one after another.
 abbrev pub report : List Table → List ℕ
@@ -62,7 +57,3 @@ report tables = flat_map report_on tables
 -- Whether a table is in the class.
 abbrev pub is_accepted : Table → Bool
 is_accepted table = is_empty (faults table)
-
--- The status of a report: 0 where each table is in the class, else 1.
-abbrev pub report_status : List Table → ℕ
-report_status tables = if list_all is_accepted tables then 0 else 1

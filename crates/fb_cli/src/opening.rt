@@ -1,12 +1,16 @@
 //! Files that are opened and read, or refused.
 
-ghost use Rattle.std.specs.Prelude.{◌≡◌, ◌≤◌, ◌<◌, ◌^◌, length, IfOk, IfErr};
-ghost use Rattle.std.specs.List.{AllByRecursion};
+ghost use Rattle.std.specs.Prelude.{◌≡◌, ◌≤◌, ◌<◌, ◌^◌, Ok, length, true, IfOk, IfErr};
+ghost use Rattle.std.specs.List.{AllByRecursion, list_all};
 ghost use Rattle.fb_edge.specs.Outside.{Rose};
-ghost use Rattle.fb_cli.specs.Output.{limit_of};
-ghost use Rattle.fb_cli.specs.Opening.{Gives, IsRefusal, OfFile, IsUnread, IsTooLong, TellsFault, AreSetup, AreTurns, RefusesSetup, RefusesTurns};
+ghost use Rattle.fb_text.specs.Unread.{unread};
+ghost use Rattle.setup_text.specs.Reading.{schedule_at};
+ghost use Rattle.fb_cli.specs.Report.{is_accepted};
+ghost use Rattle.fb_cli.specs.Output.{limit_of, with_accepted, with_setup, with_turns};
+ghost use Rattle.fb_cli.specs.Replies.{Always, AreSetup, Gives, IfAnswered, IsTooLong, Fails, OfFile, Refuses, TellsFault};
 
 use crate::answers::{Refusal, Reply, fault_answer, long_answer};
+use crate::report::judge;
 use crate::role::Role;
 use fb_edge::{LoadFault, Shelf, load};
 use setup_text::{Setup, SetupFault, read_schedule, read_setup};
@@ -33,8 +37,8 @@ pub fn open<F: Shelf>(
 ) -> Result<Vec<u8>, Reply>
     ensures bytes { IfOk result (λ bytes. OfFile (F.file shelf.old) name.now (λ known. known ≡ bytes.items)) }
     ensures within { IfOk result (λ bytes. length bytes.items ≤ limit_of role) }
-    ensures stops { IfErr result (Gives (λ answer. OfFile (F.file shelf.old) name.now (IsTooLong role answer)) (IsUnread role (Rose (F.faults shelf.old) (F.faults shelf.new)))) }
-    ensures refused { IfErr result IsRefusal }
+    ensures stops { IfErr result (Gives (λ o. OfFile (F.file shelf.old) name.now (IsTooLong role o)) (Fails role (Rose (F.faults shelf.old) (F.faults shelf.new)))) }
+    ensures refused { IfErr result (λ reply. IfAnswered reply Refuses) }
     ensures later { F.faults shelf.old ≤ F.faults shelf.new }
     ensures file { F.file shelf.new ≡ F.file shelf.old }
 {
@@ -49,7 +53,7 @@ pub fn open<F: Shelf>(
 /// The reply where a text was not read.
 pub fn refuse(alloc: Global, role: Role, fault: SetupFault) -> Reply
     ensures told { Gives (TellsFault role fault) (λ other. ⊥) result }
-    ensures refused { IsRefusal result }
+    ensures refused { IfAnswered result Refuses }
 {
     match fault {
         SetupFault::Bad { line, kind } => Reply::of(fault_answer(alloc, role, line, kind)),
@@ -60,8 +64,8 @@ pub fn refuse(alloc: Global, role: Role, fault: SetupFault) -> Reply
 /// Opens a setup.
 pub fn open_setup<F: Shelf>(alloc: Global, name: &str, shelf: &mut F) -> Result<Setup, Reply>
     ensures setup { IfOk result (λ setup. OfFile (F.file shelf.old) name.now (AreSetup setup)) }
-    ensures stops { IfErr result (Gives (λ answer. OfFile (F.file shelf.old) name.now (RefusesSetup answer)) (IsUnread Role.Setup (Rose (F.faults shelf.old) (F.faults shelf.new)))) }
-    ensures refused { IfErr result IsRefusal }
+    ensures stops { IfErr result (Gives (λ o. OfFile (F.file shelf.old) name.now (λ bytes. Always (with_setup bytes) o)) (Fails Role.Setup (Rose (F.faults shelf.old) (F.faults shelf.new)))) }
+    ensures refused { IfErr result (λ reply. IfAnswered reply Refuses) }
     ensures later { F.faults shelf.old ≤ F.faults shelf.new }
     ensures file { F.file shelf.new ≡ F.file shelf.old }
 {
@@ -69,6 +73,22 @@ pub fn open_setup<F: Shelf>(alloc: Global, name: &str, shelf: &mut F) -> Result<
     match read_setup(alloc, &bytes) {
         Ok(setup) => Ok(setup),
         Err(fault) => Err(refuse(alloc, Role::Setup, fault)),
+    }
+}
+
+/// Opens a setup whose tables are in the class.
+pub fn open_accepted<F: Shelf>(alloc: Global, name: &str, shelf: &mut F) -> Result<Setup, Reply>
+    ensures setup { IfOk result (λ setup. OfFile (F.file shelf.old) name.now (AreSetup setup)) }
+    ensures accepted { IfOk result (λ setup. list_all is_accepted setup.tables ≡ true) }
+    ensures stops { IfErr result (Gives (λ o. OfFile (F.file shelf.old) name.now (λ bytes. Always (with_accepted bytes) o)) (Fails Role.Setup (Rose (F.faults shelf.old) (F.faults shelf.new)))) }
+    ensures refused { IfErr result (λ reply. IfAnswered reply Refuses) }
+    ensures later { F.faults shelf.old ≤ F.faults shelf.new }
+    ensures file { F.file shelf.new ≡ F.file shelf.old }
+{
+    let setup = open_setup(alloc, name, shelf)?;
+    match judge(alloc, &setup) {
+        Ok(()) => Ok(setup),
+        Err(reply) => Err(reply),
     }
 }
 
@@ -81,10 +101,11 @@ pub fn open_schedule<F: Shelf>(
 ) -> Result<Vec<u8>, Reply>
     requires low { 1 ≤ boards }
     requires high { boards ≤ 16 }
-    ensures turns { IfOk result (λ turns. OfFile (F.file shelf.old) name.now (AreTurns boards turns.items)) }
+    ensures short { IfOk result (λ turns. OfFile (F.file shelf.old) name.now (λ bytes. length bytes ≤ limit_of Role.Schedule)) }
+    ensures turns { IfOk result (λ turns. OfFile (F.file shelf.old) name.now (λ bytes. schedule_at boards (unread bytes) ≡ Ok turns.items)) }
     ensures places { IfOk result (λ turns. AllByRecursion (λ p. (1 ≤ p) × (p ≤ boards)) turns.items) }
-    ensures stops { IfErr result (Gives (λ answer. OfFile (F.file shelf.old) name.now (RefusesTurns boards answer)) (IsUnread Role.Schedule (Rose (F.faults shelf.old) (F.faults shelf.new)))) }
-    ensures refused { IfErr result IsRefusal }
+    ensures stops { IfErr result (Gives (λ o. OfFile (F.file shelf.old) name.now (λ bytes. Always (with_turns boards bytes) o)) (Fails Role.Schedule (Rose (F.faults shelf.old) (F.faults shelf.new)))) }
+    ensures refused { IfErr result (λ reply. IfAnswered reply Refuses) }
     ensures later { F.faults shelf.old ≤ F.faults shelf.new }
     ensures file { F.file shelf.new ≡ F.file shelf.old }
 {

@@ -1,25 +1,30 @@
 //! `replay`: a trace replayed on a setup, read piece by piece.
 
-ghost use Rattle.std.specs.Prelude.{◌≡◌, ◌≤◌, ◌<◌, ◌^◌, [], true, Ok, Err, length, IfOk, IfErr, IfSome, OnOk};
+ghost use Rattle.std.specs.Prelude.{◌≡◌, ◌≤◌, ◌<◌, ◌^◌, [], true, Ok, length, IfOk, IfErr, IfSome, OnOk};
 ghost use Rattle.std.specs.List.{list_all};
 ghost use Rattle.fb_edge.specs.Outside.{Rose};
+ghost use Rattle.backplane.specs.Machine.{opened};
 ghost use Rattle.fb_cli.specs.Report.{is_accepted};
-ghost use Rattle.fb_cli.specs.Output.{limit_of, replay_output, trace_output, traced_output};
-ghost use Rattle.fb_cli.specs.Answers.{answer_output};
-ghost use Rattle.fb_cli.specs.Opening.{FedWith, FeedCause, FinishedAs, Gives, IsReplayed, IsUnread, OfFile, ReplayUnread, TraceCause};
+ghost use Rattle.fb_cli.specs.Replay.{FedWith, FeedCause, IsReplayed, TraceCause, replay, trace_fault, trace_output};
+ghost use Rattle.fb_cli.specs.Replies.{Comes, Gives, Fails, OfFile, answer_output};
 
-use crate::answers::{Answer, Refusal, Reply, long_answer, trace_answer};
-use crate::opening::{limit_of, open_setup};
-use crate::report::refusal;
+use crate::answers::{Answer, LINE, Outcome, Refusal, Reply, long_answer};
+use crate::opening::{limit_of, open_accepted};
 use crate::role::Role;
-use crate::running::{line, start};
+use crate::room::Room;
+use crate::starting::start;
+use crate::words::number;
 use backplane::Machine;
 use fb_edge::Shelf;
+use fb_text::Text;
 use no_memory::NoMemory;
 use replayer::Replay;
 use setup::Setup;
 use std::alloc::Global;
 use trace_lines::ReplayFault;
+
+#[cfg(test)]
+mod tests;
 
 /// Why a file was not replayed.
 #[derive(Clone, Copy, Debug, PartialEq, Eq)]
@@ -34,16 +39,6 @@ pub enum TraceFileFault {
 
 /// The most bytes that are read at once.
 const PIECE: usize = 4096;
-
-/// What a trace that was read to its end comes to.
-fn finish(replay: Replay) -> Result<Machine, TraceFileFault>
-    ensures { FinishedAs replay result }
-{
-    match replay.finish() {
-        Ok(machine) => Ok(machine),
-        Err(fault) => Err(TraceFileFault::Trace(fault)),
-    }
-}
 
 /// Feeds a replay with the file that was started, to its end.
 fn feed_all<F: Shelf>(replay: &mut Replay, shelf: &mut F, limit: u64) -> Result<(), TraceFileFault>
@@ -90,21 +85,53 @@ pub fn replay_file<F: Shelf>(
     }
     let mut replay = Replay::start(machine);
     match feed_all(&mut replay, shelf, limit) {
-        Ok(()) => finish(replay),
+        Ok(()) => match replay.finish() {
+            Ok(machine) => Ok(machine),
+            Err(fault) => Err(TraceFileFault::Trace(fault)),
+        },
         Err(fault) => Err(fault),
     }
+}
+
+/// The answer where a trace is not that of a complete run.
+fn trace_answer(alloc: Global, fault: ReplayFault) -> Result<Answer, NoMemory>
+    ensures output { IfOk result (λ answer. answer_output answer ≡ trace_fault fault) }
+{
+    let mut text = Text::new(alloc);
+    text.reserve(LINE)?;
+    match fault {
+        ReplayFault::Spelling { line } => {
+            text.push(b"fault trace line ");
+            number(&mut text, line);
+            text.push(b" spelling\n");
+        }
+        ReplayFault::NotARun { line } => {
+            text.push(b"fault trace line ");
+            number(&mut text, line);
+            text.push(b" not-a-run\n");
+        }
+        ReplayFault::Unfinished { board } => {
+            text.push(b"fault trace unfinished ");
+            number(&mut text, u64::from(board.0));
+            text.push(b"\n");
+        }
+    }
+    Ok(Answer::Said {
+        outcome: Outcome::Refused,
+        text,
+    })
 }
 
 /// The ending of the run of a file's trace on a machine at its opening.
 fn traced<F: Shelf>(alloc: Global, machine: Machine, name: &str, shelf: &mut F) -> Reply
     requires opening { machine.journal ≡ [] }
-    ensures { Gives (λ answer. OfFile (F.file shelf.old) name.now (λ bytes. answer_output answer ≡ trace_output machine bytes)) (IsUnread Role.Trace (Rose (F.faults shelf.old) (F.faults shelf.new))) result }
+    ensures { Gives (λ o. OfFile (F.file shelf.old) name.now (λ bytes. o ≡ trace_output machine bytes)) (Fails Role.Trace (Rose (F.faults shelf.old) (F.faults shelf.new))) result }
 {
-    let Ok(line) = line(alloc) else {
+    let Ok(room) = Room::new(alloc) else {
         return Reply::Refused(Refusal::NoMemory);
     };
     match replay_file(machine, shelf, name, limit_of(Role::Trace)) {
-        Ok(machine) => Reply::Answered(Answer::Replayed { machine, line }),
+        Ok(machine) => Reply::Answered(Answer::Replayed { machine, room }),
         Err(TraceFileFault::Failed) => Reply::Refused(Refusal::Unread(Role::Trace)),
         Err(TraceFileFault::TooLong { taken }) => {
             Reply::of(long_answer(alloc, Role::Trace, taken))
@@ -113,26 +140,23 @@ fn traced<F: Shelf>(alloc: Global, machine: Machine, name: &str, shelf: &mut F) 
     }
 }
 
-/// The ending of the run of a file's trace on a setup, or the report where a table is not accepted.
-fn judged<F: Shelf>(alloc: Global, setup: Setup, name: &str, shelf: &mut F) -> Reply
-    ensures { Gives (λ answer. OfFile (F.file shelf.old) name.now (λ bytes. answer_output answer ≡ traced_output bytes setup)) (λ role. (list_all is_accepted setup.tables ≡ true) × IsUnread Role.Trace (Rose (F.faults shelf.old) (F.faults shelf.new)) role) result }
+/// The ending of the run of a file's trace on a setup whose tables are accepted.
+fn ended<F: Shelf>(alloc: Global, setup: Setup, name: &str, shelf: &mut F) -> Reply
+    requires { list_all is_accepted setup.tables ≡ true }
+    ensures { Gives (λ o. OfFile (F.file shelf.old) name.now (λ bytes. o ≡ trace_output (opened setup) bytes)) (Fails Role.Trace (Rose (F.faults shelf.old) (F.faults shelf.new))) result }
 {
-    match refusal(alloc, setup.tables()) {
-        Ok(Some(answer)) => Reply::Answered(answer),
-        Ok(None) => match start(alloc, setup) {
-            Ok(machine) => traced(alloc, machine, name, shelf),
-            Err(NoMemory) => Reply::Refused(Refusal::NoMemory),
-        },
+    match start(alloc, setup) {
+        Ok(machine) => traced(alloc, machine, name, shelf),
         Err(NoMemory) => Reply::Refused(Refusal::NoMemory),
     }
 }
 
 /// Does `replay`.
 pub fn replay<F: Shelf>(alloc: Global, name: &str, trace: &str, shelf: &mut F) -> Reply
-    ensures { Gives (λ answer. IfSome (F.file shelf.old) (λ bytes_of. answer_output answer ≡ replay_output (bytes_of name.now) (bytes_of trace.now))) (ReplayUnread (F.file shelf.old) name.now (Rose (F.faults shelf.old) (F.faults shelf.new))) result }
+    ensures { Comes (replay name.now trace.now) (F.file shelf.old) (Rose (F.faults shelf.old) (F.faults shelf.new)) result }
 {
-    match open_setup(alloc, name, shelf) {
-        Ok(setup) => judged(alloc, setup, trace, shelf),
+    match open_accepted(alloc, name, shelf) {
+        Ok(setup) => ended(alloc, setup, trace, shelf),
         Err(reply) => reply,
     }
 }

@@ -1,20 +1,21 @@
 //! The report of the checker on tables.
 
-ghost use Rattle.std.specs.Prelude.{◌≡◌, ◌≤◌, ◌+◌, ◌++◌, ◌∷◌, [], length, flat_map, OnOk, IfOk, IfSome, IsNone, true, false};
+ghost use Rattle.std.specs.Prelude.{◌≡◌, ◌≤◌, ◌+◌, ◌++◌, ◌∷◌, [], length, flat_map, OnOk, IfOk, IfErr, true, if◌then◌else◌};
 ghost use Rattle.std.specs.List.{list_all};
 ghost use Rattle.fb_text.specs.Written.{after_words, line_bytes};
 ghost use Rattle.table_check.specs.Accepted.{faults};
 ghost use Rattle.table_check.specs.declared.verdict.CellFault.TheVariants.{NotPermitted, Missing};
-ghost use Rattle.fb_cli.specs.Report.{is_accepted, cell_name, alternative_of, fault_bytes, verdict_words, verdict_line, report_on};
-ghost use Rattle.fb_cli.specs.Output.{report_output};
-ghost use Rattle.fb_cli.specs.Answers.{CanPrint, IsOutcome, IsSaid, Refuses, answer_output};
+ghost use Rattle.fb_cli.specs.Report.{is_accepted, cell_name, alternative_of, fault_bytes, verdict_words, verdict_line, report_on, report};
+ghost use Rattle.fb_cli.specs.Output.{if_accepted, report_output};
+ghost use Rattle.fb_cli.specs.Replies.{Always, Gives, IfAnswered, Refuses, answer_output};
 
-use crate::answers::Answer;
+use crate::answers::{Answer, Outcome, Refusal, Reply};
 use crate::words::{number, word};
 use class_relation::{Cell, Table};
 use class_words::{bus_event_text, local_event_text, state_text};
 use fb_text::Text;
 use no_memory::NoMemory;
+use setup::Setup;
 use std::alloc::Global;
 use table_check::{CellFault, check};
 use table_text::{write_answer, write_local_action};
@@ -138,33 +139,65 @@ fn write_report(alloc: Global, table: &Table, text: &mut Text) -> Result<bool, N
     Ok(verdict.faults().is_empty())
 }
 
-/// The report on tables.
-pub fn report(alloc: Global, tables: &[Table]) -> Result<Answer, NoMemory>
-    ensures output { IfOk result (λ answer. answer_output answer ≡ report_output tables.now) }
-    ensures outcome { IfOk result (λ answer. IsOutcome (answer_output answer).status) }
-    ensures said { IfOk result IsSaid }
-    ensures can { IfOk result CanPrint }
-{
-    let mut text = Text::new(alloc);
-    let mut status = 0;
-    for table in tables {
-        if !write_report(alloc, table, &mut text)? {
-            status = 1;
-        }
-    }
-    Ok(Answer::Said { status, text })
+/// A report on tables.
+#[derive(Drop)]
+pub struct Report {
+    /// Each of them is in the class.
+    pub accepted: bool,
+    pub text: Text,
 }
 
-/// The report on tables, where one of them is not in the class.
-pub fn refusal(alloc: Global, tables: &[Table]) -> Result<Option<Answer>, NoMemory>
-    ensures none { IfOk result (λ refused. IsNone refused → list_all is_accepted tables.now ≡ true) }
-    ensures some { IfOk result (λ refused. IfSome refused (λ answer. (list_all is_accepted tables.now ≡ false) × (answer_output answer ≡ report_output tables.now))) }
-    ensures outcome { IfOk result (λ refused. IfSome refused (λ answer. IsOutcome (answer_output answer).status)) }
-    ensures refuses { IfOk result (λ refused. IfSome refused Refuses) }
-    ensures can { IfOk result (λ refused. IfSome refused CanPrint) }
+/// The report on tables.
+fn report_of(alloc: Global, tables: &[Table]) -> Result<Report, NoMemory>
+    ensures text { IfOk result (λ r. r.text.bytes ≡ report tables.now) }
+    ensures accepted { IfOk result (λ r. r.accepted ≡ list_all is_accepted tables.now) }
 {
-    match report(alloc, tables)? {
-        Answer::Said { status: 0, .. } => Ok(None),
-        answer => Ok(Some(answer)),
+    let mut text = Text::new(alloc);
+    let mut accepted = true;
+    for table in tables {
+        if !write_report(alloc, table, &mut text)? {
+            accepted = false;
+        }
+    }
+    Ok(Report { accepted, text })
+}
+
+/// The answer of a report.
+fn verdict(report: Report) -> Answer
+    ensures { answer_output result ≡ record { status = if report.accepted then 0 else 1; text = report.text.bytes } }
+{
+    if report.accepted {
+        Answer::Said {
+            outcome: Outcome::Done,
+            text: report.text,
+        }
+    } else {
+        Answer::Said {
+            outcome: Outcome::Refused,
+            text: report.text,
+        }
+    }
+}
+
+/// Reports on tables.
+pub fn report_on(alloc: Global, tables: &[Table]) -> Reply
+    ensures { Gives (λ o. o ≡ report_output tables.now) (λ role. ⊥) result }
+{
+    match report_of(alloc, tables) {
+        Ok(report) => Reply::Answered(verdict(report)),
+        Err(NoMemory) => Reply::Refused(Refusal::NoMemory),
+    }
+}
+
+/// Goes on where each table of a setup is in the class, and else stops with the report.
+pub fn judge(alloc: Global, setup: &Setup) -> Result<(), Reply>
+    ensures accepted { OnOk result (list_all is_accepted setup.now.tables ≡ true) }
+    ensures stops { IfErr result (Gives (Always (if_accepted setup.now)) (λ role. ⊥)) }
+    ensures refused { IfErr result (λ reply. IfAnswered reply Refuses) }
+{
+    match report_of(alloc, setup.tables()) {
+        Ok(report) if report.accepted => Ok(()),
+        Ok(report) => Err(Reply::Answered(verdict(report))),
+        Err(NoMemory) => Err(Reply::Refused(Refusal::NoMemory)),
     }
 }

@@ -2,33 +2,37 @@
 
 ghost use Rattle.std.specs.Prelude.{◌≡◌};
 ghost use Rattle.fb_edge.specs.Outside.{Rose};
-ghost use Rattle.fb_cli.specs.Output.{show_output, shown_output};
-ghost use Rattle.fb_cli.specs.Answers.{answer_output};
-ghost use Rattle.fb_cli.specs.Opening.{Gives, IsUnread, OfFile};
+ghost use Rattle.fb_cli.specs.Show.{show, shown_output};
+ghost use Rattle.fb_cli.specs.Replies.{Comes, Gives};
 
-use crate::answers::{Answer, Refusal, Reply};
+use crate::answers::{Answer, Outcome, Refusal, Reply};
 use crate::opening::open_setup;
-use crate::role::Role;
 use fb_edge::Shelf;
 use fb_text::Text;
 use no_memory::NoMemory;
 use setup_text::{Setup, write_setup};
 use std::alloc::Global;
 
+#[cfg(test)]
+mod tests;
+
 /// The written spelling of a setup.
 pub fn written(alloc: Global, setup: &Setup) -> Reply
-    ensures { Gives (λ answer. answer_output answer ≡ shown_output setup.now) (λ role. ⊥) result }
+    ensures { Gives (λ o. o ≡ shown_output setup.now) (λ role. ⊥) result }
 {
     let mut text = Text::new(alloc);
     match write_setup(setup, &mut text) {
-        Ok(()) => Reply::Answered(Answer::Said { status: 0, text }),
+        Ok(()) => Reply::Answered(Answer::Said {
+            outcome: Outcome::Done,
+            text,
+        }),
         Err(NoMemory) => Reply::Refused(Refusal::NoMemory),
     }
 }
 
 /// Does `show`.
 pub fn show<F: Shelf>(alloc: Global, name: &str, shelf: &mut F) -> Reply
-    ensures { Gives (λ answer. OfFile (F.file shelf.old) name.now (λ bytes. answer_output answer ≡ show_output bytes)) (IsUnread Role.Setup (Rose (F.faults shelf.old) (F.faults shelf.new))) result }
+    ensures { Comes (show name.now) (F.file shelf.old) (Rose (F.faults shelf.old) (F.faults shelf.new)) result }
 {
     match open_setup(alloc, name, shelf) {
         Ok(setup) => written(alloc, &setup),

@@ -1,9 +1,12 @@
-use Rattle.fb_cli.proofs.Races.{race_read, race_unread}
+use Rattle.std.proofs.Common.{rules, subst, sym}
+use Rattle.fb_cli.proofs.Coming.{race_comes, no_race_comes}
 use Rattle.fb_cli.proofs.racing.race_file.Goals as goal
 
-pub returns-in-Ok-clause-gives : goal.returns-in-Ok-clause-gives
-returns-in-Ok-clause-gives g c =
-    race_read (g.F.Shelf.file c.args.shelf.now) c.args.name.now c.in-Ok.setup _ c.judged.result c.in-Ok.ensures.setup c.judged.ensures.gives
+pub returns-in-Ok : goal.returns-in-Ok
+returns-in-Ok g c =
+    rw c.of.ensures
+    (race_comes c.args.name.now (g.F.Shelf.file c.args.shelf.now) _ c.in-Ok.setup c.raced.result c.in-Ok.ensures.setup c.in-Ok.ensures.accepted c.raced.ensures)
 
-pub returns-in-Err-clause-gives : goal.returns-in-Err-clause-gives
-returns-in-Err-clause-gives g c = race_unread (g.F.Shelf.file c.args.shelf.now) c.args.name.now _ c.in-Err.reply c.in-Err.ensures.stops
+pub returns-in-Err : goal.returns-in-Err
+returns-in-Err g c =
+    no_race_comes c.args.name.now (g.F.Shelf.file c.args.shelf.now) _ c.in-Err.reply (search rules) c.in-Err.ensures.refused

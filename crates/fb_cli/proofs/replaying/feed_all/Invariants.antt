@@ -1,5 +1,5 @@
 use Rattle.std.proofs.Common.{◌≡◌, ◌+◌, ◌-◌, ◌≤◌, IfSome}
-use Rattle.fb_cli.specs.Opening.{HasRead}
+use Rattle.fb_cli.proofs.Feeding.{HasRead}
 use Rattle.fb_cli.proofs.replaying.feed_all.Given as goal
 
 abbrev pub invariant-loop-taken : goal.invariant-loop-taken
