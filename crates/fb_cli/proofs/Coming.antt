@@ -1,22 +1,20 @@
 -- From what the steps of a command came to, to what the command comes to.
-use Rattle.std.proofs.Common.{◌≡◌, ℕ, true, List, ◌∷◌, [], Option, Some, None, Ok, Err, refl, ap, sym, ◌∙◌, subst, arith}
+use Rattle.std.proofs.Common.{◌≡◌, ℕ, true, List, ◌∷◌, [], Option, Some, None, Ok, Err, ap, sym, ◌∙◌, subst, arith}
 use Rattle.std.specs.Prelude.{IfSome, IfOk, Result}
 use Rattle.std.specs.List.{list_all}
-use Rattle.fb_text.specs.Unread.{unread}
-use Rattle.setup_text.specs.Reading.{Fault, setup_at}
+use Rattle.setup_text.specs.Reading.{Fault}
 use Rattle.bus_model.specs.Setup.{Setup}
 use Rattle.fb_cli.specs.declared.answers.Answer.{Answer}
 use Rattle.fb_cli.specs.declared.answers.Refusal.TheVariants.{NoRow, Unread, NoMemory}
 use Rattle.fb_cli.specs.declared.answers.Reply.{Reply}
 use Rattle.fb_cli.specs.declared.answers.Reply.TheVariants.{Answered, Refused}
-use Rattle.fb_cli.specs.declared.role.Role.TheVariants as roles
 use Rattle.fb_cli.specs.Report.{is_accepted}
 use Rattle.fb_cli.specs.Output.{Output, Files, with_accepted}
 use Rattle.fb_cli.specs.Command.{File, IsAnswer, IsUnread, setup_file}
-use Rattle.fb_cli.specs.Replies.{Always, AreSetup, Comes, Fails, Gives, IfAnswered, OfFile, Refuses, answer_output, answered}
+use Rattle.fb_cli.specs.Replies.{Always, AreSetup, Comes, Gives, IfAnswered, OfFile, Refuses, answer_output, answered}
 use Rattle.fb_cli.specs.Headline.{IsTextOfRun}
 use Rattle.fb_cli.specs.Run.{running}
-use Rattle.fb_cli.specs.Race.{IsRunOutput, MayRace, race}
+use Rattle.fb_cli.specs.Race.{IsRunOutput, race}
 use Rattle.fb_cli.proofs.Alike.{with_accepted_is}
 use Rattle.fb_cli.proofs.Runs.{of_run}
 

@@ -8,7 +8,6 @@ use Rattle.backplane.specs.Machine.{Machine, opened}
 use Rattle.generator.specs.Generated.{generated}
 use Rattle.generator.specs.Schedule.{seeded_turns}
 use Rattle.tally.specs.Tally.{tally_text}
-use Rattle.fb_cli.specs.Output.{Output}
 use Rattle.fb_cli.specs.Tally.{generated_run, tally_output}
 
 -- The journal of a machine of the generated setup, after the seeded schedule was played on it.

@@ -1,5 +1,5 @@
 -- What a command is, and what a call that does it may answer.
-use Rattle.std.specs.Prelude.{◌≡◌, ◌⊎◌, ℕ, ◌≤◌, List, [], ◌∷◌, length, Option, None, Some, IfSome, IsTrue, is_ok}
+use Rattle.std.specs.Prelude.{◌≡◌, ◌⊎◌, ℕ, ◌≤◌, List, [], ◌∷◌, length, Option, Some, IfSome, IsTrue, is_ok}
 use Rattle.std.specs.Io.KnownBytes.{Appends}
 use Rattle.fb_text.specs.Unread.{unread}
 use Rattle.setup_text.specs.Reading.{setup_at}

@@ -1,5 +1,5 @@
 -- `replay`: a trace replayed on a setup, and what its reading piece by piece comes to.
-use Rattle.std.specs.Prelude.{◌≡◌, ℕ, ◌+◌, ◌≤◌, ◌<◌, List, [], ◌∷◌, ◌++◌, length, true, Result, Ok, Err, Option, Some, IfSome, IfOk, codes, decimal}
+use Rattle.std.specs.Prelude.{◌≡◌, ℕ, ◌+◌, ◌≤◌, ◌<◌, List, [], ◌∷◌, ◌++◌, length, true, Result, Ok, Err, Option, IfSome, IfOk, codes, decimal}
 use Rattle.std.specs.List.{list_all}
 use Rattle.fb_text.specs.Unread.{unread}
 use Rattle.setup_text.specs.Reading.{setup_at}

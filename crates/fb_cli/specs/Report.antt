@@ -1,5 +1,5 @@
 -- The report of the checker on tables.
-use Rattle.std.specs.Prelude.{ℕ, ◌-◌, Bool, ◌&&◌, List, [], ◌∷◌, ◌++◌, Option, None, Some, length, flat_map, slice_get, nat_eq, codes, decimal, if◌then◌else◌}
+use Rattle.std.specs.Prelude.{ℕ, ◌-◌, Bool, List, [], ◌∷◌, ◌++◌, Option, None, Some, length, flat_map, slice_get, nat_eq, codes, decimal, if◌then◌else◌}
 use Rattle.fb_text.specs.Places.{Words}
 use Rattle.fb_text.specs.Written.{line_bytes}
 use Rattle.class_relation.specs.declared.Cell.{Cell}

@@ -58,6 +58,6 @@ pub fn ran(machine: Machine, room: Room) -> Answer
     ensures output { answer_output result ≡ answer_output (Answer.Ran machine room) }
     ensures run { IsTextOfRun machine.setup (answer_output result).text }
 {
-    whole_run_holds(&machine);
+    whole_run_holds(&machine); // gives RunHolds to the prover
     Answer::Ran { machine, room }
 }

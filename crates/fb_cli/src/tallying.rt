@@ -22,7 +22,7 @@ fn generated(alloc: Global, seed: u64) -> Result<Setup, NoMemory>
     ensures setup { IfOk result (λ setup. setup ≡ generated seed) }
     ensures accepted { IfOk result (λ setup. list_all is_accepted setup.tables ≡ true) }
 {
-    generated_setups_are_accepted();
+    generated_setups_are_accepted(); // gives InClass to the prover
     make_setup(alloc, seed)
 }
 

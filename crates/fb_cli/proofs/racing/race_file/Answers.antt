@@ -1,4 +1,4 @@
-use Rattle.std.proofs.Common.{rules, subst, sym}
+use Rattle.std.proofs.Common.{rules}
 use Rattle.fb_cli.proofs.Coming.{race_comes, no_race_comes}
 use Rattle.fb_cli.proofs.racing.race_file.Goals as goal
 

@@ -1,4 +1,4 @@
-use Rattle.std.proofs.Common.{List, arith, drop, length, rules, subst, sym, ℕ, ◌+◌, ◌++◌, ◌∙◌, ◌≤◌}
+use Rattle.std.proofs.Common.{List, arith, drop, rules, subst, sym, ℕ, ◌++◌, ◌∙◌}
 use Rattle.std.proofs.lemmas.List.{take-append-le}
 use Rattle.replayer.specs.Standing.{StandsFor}
 use Rattle.fb_cli.proofs.Feeding.{more_read}
