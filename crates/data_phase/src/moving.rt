@@ -9,8 +9,8 @@ ghost use Rattle.board.specs.Rack.{IsBoard, can_fill, counts_at, setup_of};
 ghost use Rattle.data_phase.specs.Seen.{AreOthers, Shows, carried_for, rack_after, seen, change_by, change_for, change_of, is_taker, rack_given_all, AllAreBoards};
 
 use crate::parts::{
-    carried_source, carried_states, carried_takers, copy_words, done_for, get_memory,
-    put_memory, settled_state, written_by,
+    carried_source, carried_states, carried_takers, copy_words, done_for, get_memory, put_memory,
+    settled_state, written_by,
 };
 use board::{Change, Rack};
 use bus_signals::{Access, Addr, BoardNo, LineNo};
