@@ -20,16 +20,20 @@ fn words(alloc: Global, text: &str) -> Result<Vec<String>, AllocError> {
     Ok(words)
 }
 
+/// A file with its name.
+fn file(alloc: Global, name: &str, text: &str) -> Result<(String, Vec<u8>), AllocError> {
+    Ok((
+        String::from_str(alloc, name)?,
+        text.as_bytes().to_vec(alloc)?,
+    ))
+}
+
 /// The setup of the counters as the file F, and a trace as the file T.
 fn files(alloc: Global, trace: &str) -> Result<Vec<(String, Vec<u8>)>, Fail> {
     let setup = counters_text(alloc)?;
     let mut files = Vec::new(alloc);
-    for (name, text) in [("F", setup.as_str()), ("T", trace)] {
-        files.push((
-            String::from_str(alloc, name)?,
-            text.as_bytes().to_vec(alloc)?,
-        ))?;
-    }
+    files.push(file(alloc, "F", setup.as_str())?)?;
+    files.push(file(alloc, "T", trace)?)?;
     Ok(files)
 }
 
