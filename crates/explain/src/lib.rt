@@ -1,7 +1,9 @@
 //! Why a text is refused: the line and the word at fault, and what may stand there.
 #![tactic(auto)]
 
+mod commands;
 mod fault;
+mod help;
 mod likely;
 mod line;
 mod nearest;
@@ -13,11 +15,15 @@ mod setup;
 mod shown;
 mod tables;
 mod texts;
+mod trace;
 mod verdict;
 mod wanted;
 
+pub use commands::Command;
+pub use help::{explain_words, help_of, help_text};
 pub use no_memory::NoMemory;
 pub use texts::{explain_schedule, explain_setup, explain_tables};
+pub use trace::explain_trace;
 pub use verdict::explain_verdict;
 
 #[cfg(test)]

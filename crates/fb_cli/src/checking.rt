@@ -22,7 +22,7 @@ use std::alloc::Global;
 mod tests;
 
 /// Whether a text is one of tables: its first word is `table`.
-fn is_book(bytes: &[u8]) -> bool
+pub fn is_book(bytes: &[u8]) -> bool
     requires { length bytes.now < 2 ^ 31 }
     ensures { result ≡ is_book (unread bytes.now) }
 {
