@@ -68,9 +68,9 @@ impl Command {
             Command::Run => "SETUP SCHEDULE, or SETUP seed NUMBER",
             Command::Replay => "SETUP TRACE",
             Command::Make | Command::Tally => "NUMBER",
-            Command::Explain => "and the words of another command",
-            Command::Help => "and nothing more, or a COMMAND",
-            Command::Version => "and nothing more",
+            Command::Explain => "WORDS, those of another command",
+            Command::Help => "[COMMAND]",
+            Command::Version => "",
         }
     }
 

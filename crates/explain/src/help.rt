@@ -11,7 +11,9 @@ use std::alloc::Global;
 /// Appends a command and what it takes.
 fn say_form(text: &mut Text, command: Command) -> Result<(), NoMemory> {
     say(text, command.name())?;
-    say(text, " ")?;
+    if !command.takes().is_empty() {
+        say(text, " ")?;
+    }
     say(text, command.takes())
 }
 
