@@ -1,8 +1,8 @@
 -- All bus events and all local events: each stands in its list, so what computes true over the list holds of every event.
-use Rattle.std.proofs.Common.{◌≡◌, Bool, true, Some, refl, sym, ap, ◌∙◌}
+use Rattle.std.proofs.Common.{◌≡◌, ◌<◌, Bool, true, ltb, Some, length, refl, sym, ap, ◌∙◌}
 use Rattle.std.specs.Prelude.{◌==◌, slice_get}
 use Rattle.std.specs.List.{list_all, list_any}
-use Rattle.std.proofs.lemmas.Bool.{eqb-true}
+use Rattle.std.proofs.lemmas.Bool.{eqb-true, ltb-true}
 use Rattle.bus_signals.specs.declared.BusEvent.{BusEvent}
 use Rattle.bus_signals.specs.declared.BusEvent.TheVariants.{Rd, Rfo, Inv, Urd, Bwr, Uwr, Ubw, Pas, Flu}
 use Rattle.bus_signals.specs.declared.LocalEvent.{LocalEvent}
@@ -58,3 +58,10 @@ same_kind a b = local_number a == local_number b
 pub same_kind-eq : (a b : LocalEvent) → same_kind a b ≡ true → a ≡ b
 same_kind-eq a b h =
     some_same a b (sym (local_listed a) ∙ ap (λ n. slice_get local_events n) (eqb-true (local_number a) (local_number b) h) ∙ local_listed b)
+
+-- Each number is below the length of its list.
+pub bus_below : (event : BusEvent) → event_number event < length bus_events
+bus_below event = ltb-true (event_number event) (length bus_events) (each_bus (λ event. ltb (event_number event) (length bus_events)) refl event)
+
+pub local_below : (event : LocalEvent) → local_number event < length local_events
+local_below event = ltb-true (local_number event) (length local_events) (each_local (λ event. ltb (local_number event) (length local_events)) refl event)
