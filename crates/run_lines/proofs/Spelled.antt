@@ -5,7 +5,7 @@ use Rattle.std.specs.List.{AllByRecursion}
 use Rattle.bus_signals.specs.declared.Access.{Access}
 use Rattle.bus_signals.specs.declared.Access.TheVariants.{Read, Write, Pass, Flush}
 use Rattle.bus_signals.specs.declared.BusEvent.{BusEvent}
-use Rattle.bus_signals.specs.declared.BusEvent.TheVariants.{Rd, Rfo, Inv, Urd, Bwr, Uwr, Ubw, Pas, Flu}
+use Rattle.bus_signals.specs.Meanings.{reads, broadcasts, writes_plain_word, writes_line}
 use Rattle.bus_signals.specs.Accesses.{address_of}
 use Rattle.moesi_state.specs.declared.State.{State}
 use Rattle.journal.specs.Boards.{answer_boards, state_boards}
@@ -16,7 +16,7 @@ use Rattle.bus_model.specs.Events.{Event, Local, Drop, Raise, Grant, Connect, Da
 use Rattle.bus_model.specs.Configuration.{Configuration, Row, Progress, Connected, present_access, opening}
 use Rattle.bus_model.specs.Board.{access_line}
 use Rattle.bus_model.specs.Connecting.{other_holders, AnswersFit}
-use Rattle.bus_model.specs.Carrying.{source_of, takers_of, states_of, master_state, source_words, reply_of, done_of, intervener_takes}
+use Rattle.bus_model.specs.Carrying.{source_of, takers_of, states_of, master_state, source_words, reply_of, done_of, intervener_or_memory, intervener_takes, with_memory, no_takers}
 use Rattle.bus_model.specs.Connecting.{capturers, intervener}
 use Rattle.bus_model.specs.Steps.{Can, CanConnect, CanData, Purpose}
 use Rattle.bus_model.specs.Soundness.{Sound, PhaseSound, TransactionSound}
@@ -79,15 +79,11 @@ module _ (setup : Setup) (events : List Event) (c : Configuration) (well : WellF
       go false k = subst IsCarried (sym k) tt
 
   source_ok : (event : BusEvent) (answers : List Answer) → ((b : ℕ) → In b (answer_boards answers) → IsBoard b) → IsSource (source_of event answers)
-  source_ok Rd answers each = source_is answers each
-  source_ok Rfo answers each = source_is answers each
-  source_ok Urd answers each = source_is answers each
-  source_ok Inv answers each = tt
-  source_ok Bwr answers each = tt
-  source_ok Uwr answers each = tt
-  source_ok Ubw answers each = tt
-  source_ok Pas answers each = tt
-  source_ok Flu answers each = tt
+  source_ok event answers each = go (reads event)
+    where
+      go : (reading : Bool) → IsSource (cond reading (intervener_or_memory (intervener answers)) Nobody)
+      go true = source_is answers each
+      go false = tt
 
   takers_one : (answers : List Answer) → ((b : ℕ) → In b (answer_boards answers) → IsBoard b) → AllByRecursion IsBoard (intervener_takes (intervener answers)).boards
   takers_one answers each = go (intervener answers) refl
@@ -97,15 +93,13 @@ module _ (setup : Setup) (events : List Event) (c : Configuration) (well : WellF
       go (Some b) h = (intervener_is answers b each h, tt)
 
   takers_ok : (event : BusEvent) (answers : List Answer) → ((b : ℕ) → In b (answer_boards answers) → IsBoard b) → AllByRecursion IsBoard (takers_of event answers).boards
-  takers_ok Rd answers each = tt
-  takers_ok Rfo answers each = tt
-  takers_ok Urd answers each = tt
-  takers_ok Inv answers each = tt
-  takers_ok Bwr answers each = capturers_are answers each
-  takers_ok Uwr answers each = takers_one answers each
-  takers_ok Ubw answers each = capturers_are answers each
-  takers_ok Pas answers each = tt
-  takers_ok Flu answers each = tt
+  takers_ok event answers each = go (broadcasts event) (writes_plain_word event) (writes_line event)
+    where
+      go : (word plain line : Bool) → AllByRecursion IsBoard (cond word (with_memory (capturers answers)) (cond plain (intervener_takes (intervener answers)) (cond line (with_memory []) no_takers))).boards
+      go true plain line = capturers_are answers each
+      go false true line = takers_one answers each
+      go false false true = tt
+      go false false false = tt
 
   -- The states after a data phase: the master's, and those of the answering boards.
   states_ok : (master : ℕ) (first : ℕ × State) (others : List (ℕ × State)) (holders : List ℕ) → first.0 ≡ master → length (first ∷ others) ≤ 16 → IsRising (state_boards others) → state_boards others ≡ holders → AllByRecursion IsBoard holders → AllByRecursion (λ b. b ≢ master) holders → AreStates master (first ∷ others)

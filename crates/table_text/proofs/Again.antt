@@ -1,5 +1,5 @@
 -- What is written is read again, whatever follows it.
-use Rattle.std.proofs.Common.{◌≡◌, ℕ, zero, suc, ◌<◌, ◌≤◌, Bool, true, false, List, [], ◌∷◌, ◌++◌, length, map, drop, Option, Some, None, Result, Ok, refl, sym, ap, ◌∙◌, append_assoc, arith}
+use Rattle.std.proofs.Common.{◌≡◌, ℕ, zero, suc, ◌<◌, ◌≤◌, Bool, true, false, List, [], ◌∷◌, ◌++◌, length, map, drop, Option, Some, None, Result, Ok, refl, sym, ap, ◌∙◌, append_assoc, arith, not}
 use Rattle.std.specs.Prelude.{codes, slice_set}
 use Rattle.std.specs.Str.{bytes_eq}
 use Rattle.std.proofs.lemmas.List.{append-nil}
@@ -8,7 +8,6 @@ use Rattle.fb_text.specs.Places.{line_items, lines_items, Words, Item, line_end,
 use Rattle.moesi_state.specs.declared.State.{State}
 use Rattle.moesi_state.specs.declared.State.TheVariants.{M, O, E, S, I}
 use Rattle.bus_signals.specs.declared.BusEvent.{BusEvent}
-use Rattle.bus_signals.specs.declared.BusEvent.TheVariants.{Rd, Rfo, Inv, Urd, Bwr, Uwr, Ubw, Pas, Flu}
 use Rattle.moesi_state.specs.declared.Outcome.{Outcome}
 use Rattle.class_relation.specs.declared.LocalAction.{LocalAction}
 use Rattle.class_relation.specs.declared.SnoopAction.{SnoopAction}
@@ -25,17 +24,11 @@ use Rattle.table_text.proofs.EventWords.{no_local_event}
 use Rattle.table_text.proofs.Alternatives.{tail, answer_of}
 use Rattle.table_text.proofs.TableLaws.{HasAllCells, rows_items, all_added, local_added, snoop_added, place_local, place_snoop, entered_whole, empty_whole}
 use Rattle.fb_text.proofs.LineItems.{items_line, cut_line}
+use Rattle.bus_signals.proofs.Events.{each_bus}
+use Rattle.std.proofs.lemmas.Bool.{not-true}
 
 pub not_bar : (b : BusEvent) → bytes_eq (bus_event_word b) bar ≡ false
-not_bar Rd = refl
-not_bar Rfo = refl
-not_bar Inv = refl
-not_bar Urd = refl
-not_bar Bwr = refl
-not_bar Uwr = refl
-not_bar Ubw = refl
-not_bar Pas = refl
-not_bar Flu = refl
+not_bar b = not-true (bytes_eq (bus_event_word b) bar) (each_bus (λ e. not (bytes_eq (bus_event_word e) bar)) refl b)
 
 -- what is left after an alternative
 abbrev pub left : Bool → Words → Words

@@ -1,5 +1,5 @@
 -- The bars of a line.
-use Rattle.std.proofs.Common.{◌≡◌, ℕ, suc, ◌<◌, ◌+◌, ◌⊎◌, inl, inr, Bool, true, false, cond, List, [], ◌∷◌, ◌++◌, length, Option, Some, None, refl, sym, ap, subst, ◌∙◌, arith}
+use Rattle.std.proofs.Common.{◌≡◌, ℕ, suc, ◌<◌, ◌+◌, ◌⊎◌, inl, inr, Bool, true, false, cond, List, [], ◌∷◌, ◌++◌, length, Option, Some, None, refl, sym, ap, subst, ◌∙◌, arith, not}
 use Rattle.std.specs.Prelude.{codes}
 use Rattle.std.specs.Str.{bytes_eq}
 use Rattle.fb_text.specs.Places.{Words}
@@ -7,15 +7,15 @@ use Rattle.fb_text.proofs.LineItems.{split_append, SplitsBehind}
 use Rattle.moesi_state.specs.declared.State.{State}
 use Rattle.moesi_state.specs.declared.State.TheVariants.{M, O, E, S, I}
 use Rattle.bus_signals.specs.declared.LocalEvent.{LocalEvent}
-use Rattle.bus_signals.specs.declared.LocalEvent.TheVariants.{Read, Write, Pass, Flush}
 use Rattle.bus_signals.specs.declared.BusEvent.{BusEvent}
-use Rattle.bus_signals.specs.declared.BusEvent.TheVariants.{Rd, Rfo, Inv, Urd, Bwr, Uwr, Ubw, Pas, Flu}
 use Rattle.moesi_state.specs.declared.Outcome.{Outcome}
 use Rattle.moesi_state.specs.declared.Outcome.TheVariants.{Fixed, OnHit}
 use Rattle.class_relation.specs.declared.LocalAction.{LocalAction}
 use Rattle.class_relation.specs.declared.SnoopAction.{SnoopAction}
 use Rattle.class_words.specs.Words.{state_word, local_event_word, bus_event_word, outcome_word}
 use Rattle.table_text.specs.Spelling.{bar, bars, bus_words, local_words, signal_words, snoop_words, alternative_words}
+use Rattle.bus_signals.proofs.Events.{each_bus, each_local}
+use Rattle.std.proofs.lemmas.Bool.{not-true}
 
 pub bars_append : (a b : Words) → bars (a ++ b) ≡ bars a + bars b
 bars_append [] b = omega arith
@@ -29,21 +29,10 @@ state_no_bar S = refl
 state_no_bar I = refl
 
 pub local_event_no_bar : (e : LocalEvent) → bytes_eq (local_event_word e) bar ≡ false
-local_event_no_bar Read = refl
-local_event_no_bar Write = refl
-local_event_no_bar Pass = refl
-local_event_no_bar Flush = refl
+local_event_no_bar e = not-true (bytes_eq (local_event_word e) bar) (each_local (λ e. not (bytes_eq (local_event_word e) bar)) refl e)
 
 pub bus_event_no_bar : (b : BusEvent) → bytes_eq (bus_event_word b) bar ≡ false
-bus_event_no_bar Rd = refl
-bus_event_no_bar Rfo = refl
-bus_event_no_bar Inv = refl
-bus_event_no_bar Urd = refl
-bus_event_no_bar Bwr = refl
-bus_event_no_bar Uwr = refl
-bus_event_no_bar Ubw = refl
-bus_event_no_bar Pas = refl
-bus_event_no_bar Flu = refl
+bus_event_no_bar b = not-true (bytes_eq (bus_event_word b) bar) (each_bus (λ b. not (bytes_eq (bus_event_word b) bar)) refl b)
 
 outcome_no_bar : (o : Outcome) → bytes_eq (outcome_word o) bar ≡ false
 outcome_no_bar (Fixed s) = state_no_bar s

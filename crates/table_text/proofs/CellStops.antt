@@ -1,14 +1,12 @@
 -- Where the reading of a cell line stops.
-use Rattle.std.proofs.Common.{◌≡◌, ℕ, ◌⊎◌, inl, inr, Bool, true, false, cond, List, [], ◌∷◌, ◌++◌, Option, Some, None, Err, refl, sym, ap, subst, ◌∙◌, arith}
+use Rattle.std.proofs.Common.{◌≡◌, ℕ, ◌⊎◌, inl, inr, Bool, true, false, cond, List, [], ◌∷◌, ◌++◌, Option, Some, None, Err, refl, sym, ap, subst, ◌∙◌, arith, not}
 use Rattle.std.specs.Prelude.{codes}
 use Rattle.std.specs.Str.{bytes_eq}
 use Rattle.fb_text.specs.Lines.{is_empty}
 use Rattle.moesi_state.specs.declared.State.{State}
 use Rattle.moesi_state.specs.declared.State.TheVariants.{M, O, E, S, I}
 use Rattle.bus_signals.specs.declared.LocalEvent.{LocalEvent}
-use Rattle.bus_signals.specs.declared.LocalEvent.TheVariants.{Read, Write, Pass, Flush}
 use Rattle.bus_signals.specs.declared.BusEvent.{BusEvent}
-use Rattle.bus_signals.specs.declared.BusEvent.TheVariants.{Rd, Rfo, Inv, Urd, Bwr, Uwr, Ubw, Pas, Flu}
 use Rattle.class_relation.specs.Tables.{Table, locals_of, answers_of, with_local, with_answer}
 use Rattle.table_text.specs.declared.fault.TableKind.{TableKind}
 use Rattle.table_text.specs.declared.fault.TableKind.TheVariants.{UnknownWord, TwiceCell, NoCell, Alternatives}
@@ -26,6 +24,9 @@ use Rattle.table_text.proofs.TableLaws.{empty_is_nil}
 use Rattle.table_text.proofs.Again.{local_again, snoop_again}
 use Rattle.table_text.proofs.Stops.{Stops, any_local, any_snoop, refused, local_stops, snoop_stops, local_first, snoop_first}
 use Rattle.table_text.proofs.TailStops.{WhyTail, BeginsTail, after_event, tail_stops}
+use Rattle.bus_signals.proofs.Events.{each_bus, each_local}
+use Rattle.std.proofs.lemmas.Bool.{not-true}
+use Rattle.bus_signals.specs.declared.LocalEvent.TheVariants.{Read}
 
 abbrev pub BeginsCell : Words → Type 0
 BeginsCell front = (c : CellLine) × (more : Words) × HasAlternative c × (cell_words c ≡ front ++ more)
@@ -68,21 +69,16 @@ state_no_equals s e = let both : true ≡ false = sym (ap (λ (v : List ℕ). by
     differs I = refl
 
 local_no_equals : (e : LocalEvent) → local_event_word e ≡ codes "=" → ⊥
-local_no_equals Read e = cc
-local_no_equals Write e = cc
-local_no_equals Pass e = cc
-local_no_equals Flush e = cc
+local_no_equals e is =
+    let yes : bytes_eq (local_event_word e) (codes "=") ≡ true = ap (λ w. bytes_eq w (codes "=")) is in
+    let no : bytes_eq (local_event_word e) (codes "=") ≡ false = not-true (bytes_eq (local_event_word e) (codes "=")) (each_local (λ e. not (bytes_eq (local_event_word e) (codes "="))) refl e) in
+    cc
 
 bus_no_equals : (e : BusEvent) → bus_event_word e ≡ codes "=" → ⊥
-bus_no_equals Rd e = cc
-bus_no_equals Rfo e = cc
-bus_no_equals Inv e = cc
-bus_no_equals Urd e = cc
-bus_no_equals Bwr e = cc
-bus_no_equals Uwr e = cc
-bus_no_equals Ubw e = cc
-bus_no_equals Pas e = cc
-bus_no_equals Flu e = cc
+bus_no_equals e is =
+    let yes : bytes_eq (bus_event_word e) (codes "=") ≡ true = ap (λ w. bytes_eq w (codes "=")) is in
+    let no : bytes_eq (bus_event_word e) (codes "=") ≡ false = not-true (bytes_eq (bus_event_word e) (codes "=")) (each_bus (λ e. not (bytes_eq (bus_event_word e) (codes "="))) refl e) in
+    cc
 
 bar_no_equals : bar ≡ codes "=" → ⊥
 bar_no_equals e = cc

@@ -1,20 +1,18 @@
 -- The cells that have alternatives are those that earlier lines name.
 use Rattle.std.proofs.Common.{◌≡◌, ℕ, ◌<◌, ◌≤◌, ◌⊎◌, inl, inr, true, false, cond, eqb, List, [], ◌∷◌, ◌++◌, length, get_or, Option, Some, None, refl, sym, ap, subst, ◌∙◌, arith}
 use Rattle.std.specs.Prelude.{slice_set}
-use Rattle.std.proofs.lemmas.Bool.{cases_eq}
+use Rattle.std.proofs.lemmas.Bool.{cases_eq, eq-eqb}
 use Rattle.std.proofs.lemmas.List.{get_or-set_same, get_or-set_other, get_or-replicate}
 use Rattle.fb_text.specs.Lines.{is_empty}
 use Rattle.fb_text.specs.Places.{Words}
 use Rattle.moesi_state.specs.declared.State.{State}
 use Rattle.moesi_state.specs.declared.State.TheVariants.{M, O, E, S, I}
 use Rattle.bus_signals.specs.declared.LocalEvent.{LocalEvent}
-use Rattle.bus_signals.specs.declared.LocalEvent.TheVariants.{Read, Write, Pass, Flush}
 use Rattle.bus_signals.specs.declared.BusEvent.{BusEvent}
-use Rattle.bus_signals.specs.declared.BusEvent.TheVariants.{Rd, Rfo, Inv, Urd, Bwr, Uwr, Ubw, Pas, Flu}
 use Rattle.class_relation.specs.declared.LocalAction.{LocalAction}
 use Rattle.class_relation.specs.declared.SnoopAction.{SnoopAction}
 use Rattle.moesi_state.specs.States.{state_number}
-use Rattle.class_relation.specs.Tables.{local_number, local_cell, answer_cell}
+use Rattle.class_relation.specs.Tables.{local_number, local_cell, answer_cell, local_cell_count, answer_cell_count}
 use Rattle.bus_signals.specs.Signals.{event_number}
 use Rattle.class_relation.specs.Tables.{Table, empty_table, locals_of, answers_of}
 use Rattle.class_words.specs.Words.{state_word, local_event_word, bus_event_word, state_of, local_event_of, bus_event_of}
@@ -22,6 +20,7 @@ use Rattle.table_text.specs.Spelling.{CellLine, local, answer, cell_words, HasAl
 use Rattle.class_words.proofs.WordLaws.{state_again, local_event_again, bus_event_again}
 use Rattle.table_text.proofs.EventWords.{no_local_event}
 use Rattle.table_text.proofs.TableLaws.{HasAllCells, place_local, place_snoop}
+use Rattle.bus_signals.proofs.Events.{bus_below, local_below, same_event-eq, same_kind-eq}
 
 -- ---- lines that name a cell
 
@@ -65,59 +64,17 @@ state_there E = refl
 state_there S = refl
 state_there I = refl
 
-local_at_place : ℕ → LocalEvent
-local_at_place n = cond (eqb n 0) Read (cond (eqb n 1) Write (cond (eqb n 2) Pass Flush))
-
-local_there : (e : LocalEvent) → local_at_place (local_number e) ≡ e
-unfolding local_at_place
-local_there Read = refl
-local_there Write = refl
-local_there Pass = refl
-local_there Flush = refl
-
-bus_at_place : ℕ → BusEvent
-bus_at_place n = cond (eqb n 0) Rd (cond (eqb n 1) Rfo (cond (eqb n 2) Inv (cond (eqb n 3) Urd (cond (eqb n 4) Bwr (cond (eqb n 5) Uwr (cond (eqb n 6) Ubw (cond (eqb n 7) Pas Flu)))))))
-
-bus_there : (e : BusEvent) → bus_at_place (event_number e) ≡ e
-unfolding bus_at_place
-bus_there Rd = refl
-bus_there Rfo = refl
-bus_there Inv = refl
-bus_there Urd = refl
-bus_there Bwr = refl
-bus_there Uwr = refl
-bus_there Ubw = refl
-bus_there Pas = refl
-bus_there Flu = refl
-
-local_below : (e : LocalEvent) → local_number e ≤ 3
-local_below Read = omega arith
-local_below Write = omega arith
-local_below Pass = omega arith
-local_below Flush = omega arith
-
-bus_below : (e : BusEvent) → event_number e ≤ 8
-bus_below Rd = omega arith
-bus_below Rfo = omega arith
-bus_below Inv = omega arith
-bus_below Urd = omega arith
-bus_below Bwr = omega arith
-bus_below Uwr = omega arith
-bus_below Ubw = omega arith
-bus_below Pas = omega arith
-bus_below Flu = omega arith
-
 local_same : (s t : State) (a b : LocalEvent) → local_cell s a ≡ local_cell t b → (s ≡ t) × (a ≡ b)
 local_same s t a b e =
     let first : state_number s ≡ state_number t = omega (arith, e, local_below a, local_below b) in
     let second : local_number a ≡ local_number b = omega (arith, e, first) in
-    (sym (state_there s) ∙ (ap state_at first ∙ state_there t), sym (local_there a) ∙ (ap local_at_place second ∙ local_there b))
+    (sym (state_there s) ∙ (ap state_at first ∙ state_there t), same_kind-eq a b (eq-eqb (local_number a) (local_number b) second))
 
 snoop_same : (s t : State) (a b : BusEvent) → answer_cell s a ≡ answer_cell t b → (s ≡ t) × (a ≡ b)
 snoop_same s t a b e =
     let first : state_number s ≡ state_number t = omega (arith, e, bus_below a, bus_below b) in
     let second : event_number a ≡ event_number b = omega (arith, e, first) in
-    (sym (state_there s) ∙ (ap state_at first ∙ state_there t), sym (bus_there a) ∙ (ap bus_at_place second ∙ bus_there b))
+    (sym (state_there s) ∙ (ap state_at first ∙ state_there t), same_event-eq a b (eq-eqb (event_number a) (event_number b) second))
 
 -- ---- a row that gets alternatives
 
@@ -223,7 +180,7 @@ marks_empty name = record {
     nothing v w (inr h) = h
 
     no_local : (s : State) (e : LocalEvent) → is_empty (locals_of (empty_table name) s e) ≡ true
-    no_local s e = ap is_empty (get_or-replicate 20 (local_cell s e) [] [] (place_local s e))
+    no_local s e = ap is_empty (get_or-replicate local_cell_count (local_cell s e) [] [] (place_local s e))
 
     no_snoop : (s : State) (e : BusEvent) → is_empty (answers_of (empty_table name) s e) ≡ true
-    no_snoop s e = ap is_empty (get_or-replicate 45 (answer_cell s e) [] [] (place_snoop s e))
+    no_snoop s e = ap is_empty (get_or-replicate answer_cell_count (answer_cell s e) [] [] (place_snoop s e))

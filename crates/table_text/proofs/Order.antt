@@ -1,17 +1,17 @@
 -- The cells of a table, in cell order, spell the table.
-use Rattle.std.proofs.Common.{◌≡◌, ℕ, zero, suc, ◌<◌, ◌+◌, ◌*◌, List, [], ◌∷◌, ◌++◌, length, get_or, refl, sym, ap, subst, ◌∙◌, arith}
-use Rattle.std.specs.Prelude.{slice_set, replicate}
+use Rattle.std.proofs.Common.{◌≡◌, ℕ, zero, suc, ◌<◌, ◌+◌, ◌*◌, Bool, true, ◌&&◌, List, [], ◌∷◌, ◌++◌, length, get_or, refl, sym, ap, subst, subst₂, ◌∙◌, arith}
+use Rattle.std.specs.Prelude.{slice_set, replicate, flat_map, ◌==◌}
 use Rattle.moesi_state.specs.declared.State.{State}
-use Rattle.moesi_state.specs.declared.State.TheVariants.{M, O, E, S, I}
 use Rattle.bus_signals.specs.declared.LocalEvent.{LocalEvent}
-use Rattle.bus_signals.specs.declared.LocalEvent.TheVariants.{Read, Write, Pass, Flush}
 use Rattle.bus_signals.specs.declared.BusEvent.{BusEvent}
-use Rattle.bus_signals.specs.declared.BusEvent.TheVariants.{Rd, Rfo, Inv, Urd, Bwr, Uwr, Ubw, Pas, Flu}
+use Rattle.bus_signals.specs.Signals.{event_number}
 use Rattle.class_relation.specs.declared.LocalAction.{LocalAction}
 use Rattle.class_relation.specs.declared.SnoopAction.{SnoopAction}
-use Rattle.moesi_state.specs.States.{state_number}
-use Rattle.class_relation.specs.Tables.{Table, empty_table, local_cell, answer_cell, locals_of, answers_of, IsWhole}
+use Rattle.moesi_state.specs.States.{state_number, all_states}
+use Rattle.class_relation.specs.Tables.{Table, local_number, local_events, bus_events, local_cell_count, answer_cell_count, empty_table, local_cell, answer_cell, locals_of, answers_of, IsWhole}
 use Rattle.class_relation.proofs.CellsFit.{fits-at}
+use Rattle.class_relation.proofs.Spelling.{both_true}
+use Rattle.std.proofs.lemmas.Bool.{eqb-true}
 use Rattle.table_text.specs.Spelling.{CellLine, entered, all_entered, table_of}
 use Rattle.table_text.specs.Correct.{AllStand}
 use Rattle.table_text.specs.Writing.{local_given, snoop_given, local_line, snoop_line, state_lines, cells_of}
@@ -103,44 +103,89 @@ one_local t m s e n i p at next = subst (λ (k : ℕ). Leads t n m k m (local_li
 one_snoop : (t : Table) (n : ℕ) (s : State) (e : BusEvent) (m j : ℕ) → IsWhole t → answer_cell s e ≡ m → j ≡ m + 1 → Leads t n m n j (snoop_line t s e)
 one_snoop t n s e m j p at next = subst (λ (k : ℕ). Leads t n m n k (snoop_line t s e)) (sym next) (snoop_leads t n s e p m at (answers_of t s e) (ap (λ (k : ℕ). get_or t.answers k []) (sym at)))
 
--- the cells of a state
-state_leads : (t : Table) (s : State) → IsWhole t → Leads t (state_number s * 4) (state_number s * 9) (state_number s * 4 + 4) (state_number s * 9 + 9) (state_lines t s)
-unfolding state_lines
-state_leads t s p =
-    let n : ℕ = state_number s * 4 in
-    let m : ℕ = state_number s * 9 in
-    let x0 : Leads t n m (n + 1) m (local_line t s Read) = (one_local t m s Read n (n + 1) p (omega arith) (omega arith)) in
-    let x1 = then_ t n m (n + 1) m (n + 2) m (local_line t s Read) (local_line t s Write) x0 (one_local t m s Write (n + 1) (n + 2) p (omega arith) (omega arith)) in
-    let x2 = then_ t n m (n + 2) m (n + 3) m (local_line t s Read ++ local_line t s Write) (local_line t s Pass) x1 (one_local t m s Pass (n + 2) (n + 3) p (omega arith) (omega arith)) in
-    let x3 = then_ t n m (n + 3) m (n + 4) m (local_line t s Read ++ local_line t s Write ++ local_line t s Pass) (local_line t s Flush) x2 (one_local t m s Flush (n + 3) (n + 4) p (omega arith) (omega arith)) in
-    let x4 = then_ t n m (n + 4) m (n + 4) (m + 1) (local_line t s Read ++ local_line t s Write ++ local_line t s Pass ++ local_line t s Flush) (snoop_line t s Rd) x3 (one_snoop t (n + 4) s Rd m (m + 1) p (omega arith) (omega arith)) in
-    let x5 = then_ t n m (n + 4) (m + 1) (n + 4) (m + 2) (local_line t s Read ++ local_line t s Write ++ local_line t s Pass ++ local_line t s Flush ++ snoop_line t s Rd) (snoop_line t s Rfo) x4 (one_snoop t (n + 4) s Rfo (m + 1) (m + 2) p (omega arith) (omega arith)) in
-    let x6 = then_ t n m (n + 4) (m + 2) (n + 4) (m + 3) (local_line t s Read ++ local_line t s Write ++ local_line t s Pass ++ local_line t s Flush ++ snoop_line t s Rd ++ snoop_line t s Rfo) (snoop_line t s Inv) x5 (one_snoop t (n + 4) s Inv (m + 2) (m + 3) p (omega arith) (omega arith)) in
-    let x7 = then_ t n m (n + 4) (m + 3) (n + 4) (m + 4) (local_line t s Read ++ local_line t s Write ++ local_line t s Pass ++ local_line t s Flush ++ snoop_line t s Rd ++ snoop_line t s Rfo ++ snoop_line t s Inv) (snoop_line t s Urd) x6 (one_snoop t (n + 4) s Urd (m + 3) (m + 4) p (omega arith) (omega arith)) in
-    let x8 = then_ t n m (n + 4) (m + 4) (n + 4) (m + 5) (local_line t s Read ++ local_line t s Write ++ local_line t s Pass ++ local_line t s Flush ++ snoop_line t s Rd ++ snoop_line t s Rfo ++ snoop_line t s Inv ++ snoop_line t s Urd) (snoop_line t s Bwr) x7 (one_snoop t (n + 4) s Bwr (m + 4) (m + 5) p (omega arith) (omega arith)) in
-    let x9 = then_ t n m (n + 4) (m + 5) (n + 4) (m + 6) (local_line t s Read ++ local_line t s Write ++ local_line t s Pass ++ local_line t s Flush ++ snoop_line t s Rd ++ snoop_line t s Rfo ++ snoop_line t s Inv ++ snoop_line t s Urd ++ snoop_line t s Bwr) (snoop_line t s Uwr) x8 (one_snoop t (n + 4) s Uwr (m + 5) (m + 6) p (omega arith) (omega arith)) in
-    let x10 = then_ t n m (n + 4) (m + 6) (n + 4) (m + 7) (local_line t s Read ++ local_line t s Write ++ local_line t s Pass ++ local_line t s Flush ++ snoop_line t s Rd ++ snoop_line t s Rfo ++ snoop_line t s Inv ++ snoop_line t s Urd ++ snoop_line t s Bwr ++ snoop_line t s Uwr) (snoop_line t s Ubw) x9 (one_snoop t (n + 4) s Ubw (m + 6) (m + 7) p (omega arith) (omega arith)) in
-    let x11 = then_ t n m (n + 4) (m + 7) (n + 4) (m + 8) (local_line t s Read ++ local_line t s Write ++ local_line t s Pass ++ local_line t s Flush ++ snoop_line t s Rd ++ snoop_line t s Rfo ++ snoop_line t s Inv ++ snoop_line t s Urd ++ snoop_line t s Bwr ++ snoop_line t s Uwr ++ snoop_line t s Ubw) (snoop_line t s Pas) x10 (one_snoop t (n + 4) s Pas (m + 7) (m + 8) p (omega arith) (omega arith)) in
-    let x12 = then_ t n m (n + 4) (m + 8) (n + 4) (m + 9) (local_line t s Read ++ local_line t s Write ++ local_line t s Pass ++ local_line t s Flush ++ snoop_line t s Rd ++ snoop_line t s Rfo ++ snoop_line t s Inv ++ snoop_line t s Urd ++ snoop_line t s Bwr ++ snoop_line t s Uwr ++ snoop_line t s Ubw ++ snoop_line t s Pas) (snoop_line t s Flu) x11 (one_snoop t (n + 4) s Flu (m + 8) (m + 9) p (omega arith) (omega arith)) in
-    x12
+-- Whether these local events have the numbers from this one on, and the same of bus events and of states.
+locals_count : ℕ → List LocalEvent → Bool
+locals_count k [] = true
+locals_count k (e ∷ es) = (local_number e == k) && locals_count (suc k) es
 
-cells_lead : (t : Table) → IsWhole t → Leads t 0 0 20 45 (cells_of t)
-unfolding cells_of
-cells_lead t p =
-    let x0 : Leads t 0 0 4 9 (state_lines t M) = state_leads t M p in
-    let x1 = then_ t 0 0 4 9 8 18 (state_lines t M) (state_lines t O) x0 (state_leads t O p) in
-    let x2 = then_ t 0 0 8 18 12 27 (state_lines t M ++ state_lines t O) (state_lines t E) x1 (state_leads t E p) in
-    let x3 = then_ t 0 0 12 27 16 36 (state_lines t M ++ state_lines t O ++ state_lines t E) (state_lines t S) x2 (state_leads t S p) in
-    let x4 = then_ t 0 0 16 36 20 45 (state_lines t M ++ state_lines t O ++ state_lines t E ++ state_lines t S) (state_lines t I) x3 (state_leads t I p) in
-    x4
+events_count : ℕ → List BusEvent → Bool
+events_count k [] = true
+events_count k (e ∷ es) = (event_number e == k) && events_count (suc k) es
+
+states_count : ℕ → List State → Bool
+states_count k [] = true
+states_count k (s ∷ ss) = (state_number s == k) && states_count (suc k) ss
+
+no_more : (t : Table) (n m i j : ℕ) → i ≡ n → j ≡ m → Leads t n m i j []
+no_more t n m i j e h = record { stand = tt; enters = ap (λ (k : ℕ). stage t k m) (sym e) ∙ ap (λ (k : ℕ). stage t i k) (sym h) }
+
+local_all : (t : Table) (m : ℕ) (s : State) (es : List LocalEvent) (k : ℕ) → IsWhole t → locals_count k es ≡ true → Leads t (length local_events * state_number s + k) m (length local_events * state_number s + (k + length es)) m (flat_map (local_line t s) es)
+unfolding locals_count
+local_all t m s [] k p counts = no_more t _ m _ m (omega arith) refl
+local_all t m s (e ∷ es) k p counts =
+    let both = both_true (local_number e == k) (locals_count (suc k) es) counts in
+    let here : local_number e ≡ k = eqb-true (local_number e) k both.0 in
+    let n : ℕ = length local_events * state_number s + k in
+    let next : ℕ = length local_events * state_number s + suc k in
+    let last : ℕ = length local_events * state_number s + (k + length (e ∷ es)) in
+    let same : length local_events * state_number s + (suc k + length es) ≡ last = omega arith in
+    then_ t n m next m last m (local_line t s e) (flat_map (local_line t s) es)
+    (one_local t m s e n next p (ap (λ (x : ℕ). length local_events * state_number s + x) here) (omega arith))
+    (subst (λ (x : ℕ). Leads t next m x m (flat_map (local_line t s) es)) same (local_all t m s es (suc k) p both.1))
+
+snoop_all : (t : Table) (n : ℕ) (s : State) (es : List BusEvent) (k : ℕ) → IsWhole t → events_count k es ≡ true → Leads t n (length bus_events * state_number s + k) n (length bus_events * state_number s + (k + length es)) (flat_map (snoop_line t s) es)
+unfolding events_count
+snoop_all t n s [] k p counts = no_more t n _ n _ refl (omega arith)
+snoop_all t n s (e ∷ es) k p counts =
+    let both = both_true (event_number e == k) (events_count (suc k) es) counts in
+    let here : event_number e ≡ k = eqb-true (event_number e) k both.0 in
+    let m : ℕ = length bus_events * state_number s + k in
+    let next : ℕ = length bus_events * state_number s + suc k in
+    let last : ℕ = length bus_events * state_number s + (k + length (e ∷ es)) in
+    let same : length bus_events * state_number s + (suc k + length es) ≡ last = omega arith in
+    then_ t n m n next n last (snoop_line t s e) (flat_map (snoop_line t s) es)
+    (one_snoop t n s e m next p (ap (λ (x : ℕ). length bus_events * state_number s + x) here) (omega arith))
+    (subst (λ (x : ℕ). Leads t n next n x (flat_map (snoop_line t s) es)) same (snoop_all t n s es (suc k) p both.1))
+
+-- the cells of a state
+state_leads : (t : Table) (s : State) → IsWhole t → Leads t (length local_events * state_number s) (length bus_events * state_number s) (length local_events * suc (state_number s)) (length bus_events * suc (state_number s)) (state_lines t s)
+unfolding state_lines locals_count events_count
+state_leads t s p =
+    let n : ℕ = length local_events * state_number s in
+    let m : ℕ = length bus_events * state_number s in
+    let first : n + 0 ≡ n = omega arith in
+    let first' : m + 0 ≡ m = omega arith in
+    let last : n + (0 + length local_events) ≡ length local_events * suc (state_number s) = omega arith in
+    let last' : m + (0 + length bus_events) ≡ length bus_events * suc (state_number s) = omega arith in
+    let x : Leads t n m (length local_events * suc (state_number s)) m (flat_map (local_line t s) local_events) =
+    subst₂ (λ (i j : ℕ). Leads t i m j m (flat_map (local_line t s) local_events)) first last (local_all t m s local_events 0 p refl) in
+    let y : Leads t (length local_events * suc (state_number s)) m (length local_events * suc (state_number s)) (length bus_events * suc (state_number s)) (flat_map (snoop_line t s) bus_events) =
+    subst₂ (λ (i j : ℕ). Leads t (length local_events * suc (state_number s)) i (length local_events * suc (state_number s)) j (flat_map (snoop_line t s) bus_events)) first' last' (snoop_all t (length local_events * suc (state_number s)) s bus_events 0 p refl) in
+    then_ t n m (length local_events * suc (state_number s)) m (length local_events * suc (state_number s)) (length bus_events * suc (state_number s)) (flat_map (local_line t s) local_events) (flat_map (snoop_line t s) bus_events) x y
+
+-- the cells of states whose numbers follow each other
+states_lead : (t : Table) (ss : List State) (k : ℕ) → IsWhole t → states_count k ss ≡ true → Leads t (length local_events * k) (length bus_events * k) (length local_events * (k + length ss)) (length bus_events * (k + length ss)) (flat_map (state_lines t) ss)
+unfolding states_count
+states_lead t [] k p counts = no_more t _ _ _ _ (omega arith) (omega arith)
+states_lead t (s ∷ ss) k p counts =
+    let both = both_true (state_number s == k) (states_count (suc k) ss) counts in
+    let here : state_number s ≡ k = eqb-true (state_number s) k both.0 in
+    let same : suc k + length ss ≡ k + length (s ∷ ss) = omega arith in
+    then_ t (length local_events * k) (length bus_events * k) (length local_events * suc k) (length bus_events * suc k) (length local_events * (k + length (s ∷ ss))) (length bus_events * (k + length (s ∷ ss))) (state_lines t s) (flat_map (state_lines t) ss)
+    (subst (λ (x : ℕ). Leads t (length local_events * x) (length bus_events * x) (length local_events * suc x) (length bus_events * suc x) (state_lines t s)) here (state_leads t s p))
+    (subst (λ (x : ℕ). Leads t (length local_events * suc k) (length bus_events * suc k) (length local_events * x) (length bus_events * x) (flat_map (state_lines t) ss)) same (states_lead t ss (suc k) p both.1))
+
+cells_lead : (t : Table) → IsWhole t → Leads t 0 0 local_cell_count answer_cell_count (cells_of t)
+unfolding cells_of states_count
+cells_lead t p = states_lead t all_states 0 p refl
 
 stage_first : (t : Table) → IsWhole t → stage t 0 0 ≡ empty_table t.name
 unfolding stage
-stage_first t p = rw (none_yet 20 t.locals p.cells.locals, none_yet 45 t.answers p.cells.answers) refl
+stage_first t p = rw (none_yet local_cell_count t.locals p.cells.locals, none_yet answer_cell_count t.answers p.cells.answers) refl
 
-stage_last : (t : Table) → IsWhole t → stage t 20 45 ≡ t
+stage_last : (t : Table) → IsWhole t → stage t local_cell_count answer_cell_count ≡ t
 unfolding stage
-stage_last t p = rw (all_there 20 t.locals p.cells.locals, all_there 45 t.answers p.cells.answers) refl
+stage_last t p = rw (all_there local_cell_count t.locals p.cells.locals, all_there answer_cell_count t.answers p.cells.answers) refl
 
 pub cells_stand : (t : Table) → IsWhole t → AllStand (empty_table t.name) (cells_of t)
 cells_stand t p = let h = cells_lead t p in subst (λ (u : Table). AllStand u (cells_of t)) (stage_first t p) h.stand

@@ -8,9 +8,7 @@ use Rattle.fb_text.specs.Written.{is_word_byte, is_word, AreLines}
 use Rattle.moesi_state.specs.declared.State.{State}
 use Rattle.moesi_state.specs.declared.State.TheVariants.{M, O, E, S, I}
 use Rattle.bus_signals.specs.declared.LocalEvent.{LocalEvent}
-use Rattle.bus_signals.specs.declared.LocalEvent.TheVariants.{Read, Write, Pass, Flush}
 use Rattle.bus_signals.specs.declared.BusEvent.{BusEvent}
-use Rattle.bus_signals.specs.declared.BusEvent.TheVariants.{Rd, Rfo, Inv, Urd, Bwr, Uwr, Ubw, Pas, Flu}
 use Rattle.moesi_state.specs.declared.Outcome.{Outcome}
 use Rattle.moesi_state.specs.declared.Outcome.TheVariants.{Fixed, OnHit}
 use Rattle.class_relation.specs.declared.LocalAction.{LocalAction}
@@ -18,6 +16,7 @@ use Rattle.class_relation.specs.declared.SnoopAction.{SnoopAction}
 use Rattle.class_relation.specs.Names.{is_lower_case, is_digit, is_name_byte, is_name}
 use Rattle.class_words.specs.Words.{state_word, local_event_word, bus_event_word, outcome_word}
 use Rattle.table_text.specs.Spelling.{bar, bus_words, local_words, signal_words, snoop_words, alternative_words, CellLine, local, answer, cell_words}
+use Rattle.bus_signals.proofs.Events.{each_bus, each_local}
 
 abbrev AreWords : Words → Type 0
 AreWords ws = AllByRecursion (λ w. is_word w ≡ true) ws
@@ -34,21 +33,10 @@ state_plain S = refl
 state_plain I = refl
 
 local_plain : (e : LocalEvent) → is_word (local_event_word e) ≡ true
-local_plain Read = refl
-local_plain Write = refl
-local_plain Pass = refl
-local_plain Flush = refl
+local_plain e = each_local (λ e. is_word (local_event_word e)) refl e
 
 bus_plain : (e : BusEvent) → is_word (bus_event_word e) ≡ true
-bus_plain Rd = refl
-bus_plain Rfo = refl
-bus_plain Inv = refl
-bus_plain Urd = refl
-bus_plain Bwr = refl
-bus_plain Uwr = refl
-bus_plain Ubw = refl
-bus_plain Pas = refl
-bus_plain Flu = refl
+bus_plain e = each_bus (λ e. is_word (bus_event_word e)) refl e
 
 outcome_plain : (o : Outcome) → is_word (outcome_word o) ≡ true
 outcome_plain (Fixed s) = state_plain s

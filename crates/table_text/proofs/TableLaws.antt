@@ -10,13 +10,11 @@ use Rattle.fb_text.specs.Places.{line_items, lines_items, Words, Item, Place, li
 use Rattle.moesi_state.specs.declared.State.{State}
 use Rattle.moesi_state.specs.declared.State.TheVariants.{M, O, E, S, I}
 use Rattle.bus_signals.specs.declared.LocalEvent.{LocalEvent}
-use Rattle.bus_signals.specs.declared.LocalEvent.TheVariants.{Read, Write, Pass, Flush}
 use Rattle.bus_signals.specs.declared.BusEvent.{BusEvent}
-use Rattle.bus_signals.specs.declared.BusEvent.TheVariants.{Rd, Rfo, Inv, Urd, Bwr, Uwr, Ubw, Pas, Flu}
 use Rattle.class_relation.specs.declared.LocalAction.{LocalAction}
 use Rattle.class_relation.specs.declared.SnoopAction.{SnoopAction}
 use Rattle.moesi_state.specs.States.{state_number}
-use Rattle.class_relation.specs.Tables.{local_number, local_cell, answer_cell}
+use Rattle.class_relation.specs.Tables.{local_number, local_cell, answer_cell, local_cell_count, answer_cell_count}
 use Rattle.bus_signals.specs.Signals.{event_number}
 use Rattle.class_relation.specs.Tables.{Table, empty_table, locals_of, answers_of, with_local, with_answer}
 use Rattle.table_text.specs.declared.fault.TableKind.{TableKind}
@@ -27,6 +25,7 @@ use Rattle.table_text.specs.Spelling.{bar, local_words, snoop_words, alternative
 use Rattle.table_text.specs.Correct.{IsTable, CanStand, AllStand}
 use Rattle.class_words.proofs.WordLaws.{state_is, local_event_is, bus_event_is}
 use Rattle.table_text.proofs.Alternatives.{bind_ok, ok_is, wanted, is_word, tail, word_takes, local_takes, snoop_takes}
+use Rattle.bus_signals.proofs.Events.{bus_below, local_below}
 
 -- the alternatives added one after another
 abbrev pub all_added : {A : Type 0} → (Table → A → Table) → Table → List A → Table
@@ -89,11 +88,11 @@ wanted_first false r y d e = absurd cc
 
 -- the lists of cells are those of a table
 pub record HasAllCells (t : Table) : Type 0 where
-  pub local : length t.locals ≡ 20
-  pub snoop : length t.answers ≡ 45
+  pub local : length t.locals ≡ local_cell_count
+  pub snoop : length t.answers ≡ answer_cell_count
 
-pub place_local : (s : State) (e : LocalEvent) → local_cell s e < 20
-place_local s e = omega (arith, low s, below e)
+pub place_local : (s : State) (e : LocalEvent) → local_cell s e < local_cell_count
+place_local s e = omega (arith, low s, local_below e)
   where
     low : (s : State) → state_number s ≤ 4
     low M = omega arith
@@ -102,14 +101,8 @@ place_local s e = omega (arith, low s, below e)
     low S = omega arith
     low I = omega arith
 
-    below : (e : LocalEvent) → local_number e ≤ 3
-    below Read = omega arith
-    below Write = omega arith
-    below Pass = omega arith
-    below Flush = omega arith
-
-pub place_snoop : (s : State) (e : BusEvent) → answer_cell s e < 45
-place_snoop s e = omega (arith, low s, below e)
+pub place_snoop : (s : State) (e : BusEvent) → answer_cell s e < answer_cell_count
+place_snoop s e = omega (arith, low s, bus_below e)
   where
     low : (s : State) → state_number s ≤ 4
     low M = omega arith
@@ -117,17 +110,6 @@ place_snoop s e = omega (arith, low s, below e)
     low E = omega arith
     low S = omega arith
     low I = omega arith
-
-    below : (e : BusEvent) → event_number e ≤ 8
-    below Rd = omega arith
-    below Rfo = omega arith
-    below Inv = omega arith
-    below Urd = omega arith
-    below Bwr = omega arith
-    below Uwr = omega arith
-    below Ubw = omega arith
-    below Pas = omega arith
-    below Flu = omega arith
 
 -- a row that gets items one after another gets them all
 row_added : {X : Type 0} (rows : List (List X)) (p : ℕ) (x : X) (more : List X) → p < length rows → slice_set (slice_set rows p (get_or rows p [] ++ x ∷ [])) p (get_or (slice_set rows p (get_or rows p [] ++ x ∷ [])) p [] ++ more) ≡ slice_set rows p (get_or rows p [] ++ x ∷ more)

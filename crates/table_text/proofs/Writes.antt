@@ -1,7 +1,8 @@
 -- What is written word after word is the line of these words.
-use Rattle.std.proofs.Common.{◌≡◌, ℕ, zero, suc, ◌<◌, ◌+◌, ◌≤◌, List, [], ◌∷◌, ◌++◌, length, map, drop, get_or, refl, sym, ap, ◌∙◌, append_assoc, drop-cons, add-one, arith}
-use Rattle.std.specs.Prelude.{codes}
-use Rattle.std.proofs.lemmas.List.{append-nil, map-append}
+use Rattle.std.proofs.Common.{◌≡◌, ℕ, zero, suc, ◌<◌, ◌+◌, ◌≤◌, List, [], ◌∷◌, ◌++◌, length, map, take, drop, get_or, refl, sym, ap, ◌∙◌, append_assoc, drop-cons, add-one, arith}
+use Rattle.std.specs.Prelude.{codes, flat_map}
+use Rattle.std.proofs.lemmas.List.{append-nil, map-append, take_more}
+use Rattle.std.proofs.lemmas.Grind.{flat_map-append}
 use Rattle.fb_text.specs.Places.{Words}
 use Rattle.fb_text.specs.Written.{after_words, line_bytes, lines_bytes}
 use Rattle.table_text.specs.Spelling.{bar, alternative_words, CellLine, local, answer, cell_words}
@@ -58,6 +59,14 @@ cells_append a b = ap lines_bytes (map-append cell_words a b) ∙ lines_bytes_ap
 pub more_cells : (old x y : List ℕ) (a b : List CellLine) → x ≡ old ++ cells_bytes a → y ≡ x ++ cells_bytes b → y ≡ old ++ cells_bytes (a ++ b)
 more_cells old x y a b e h = h ∙ (ap (λ (v : List ℕ). v ++ cells_bytes b) e ∙ (append_assoc old (cells_bytes a) (cells_bytes b) ∙ ap (λ (v : List ℕ). old ++ v) (sym (cells_append a b))))
 
+-- the lines of one more element of a list are written
+pub more_lines : {X : Type 0} (f : X → List CellLine) (xs : List X) (i : ℕ) (d : X) (old x y : List ℕ) → i < length xs → x ≡ old ++ cells_bytes (flat_map f (take i xs)) → y ≡ x ++ cells_bytes (f (get_or xs i d)) → y ≡ old ++ cells_bytes (flat_map f (take (i + 1) xs))
+more_lines f xs i d old x y lt e h =
+    let last = get_or xs i d in
+    let more : flat_map f (take (i + 1) xs) ≡ flat_map f (take i xs) ++ f last =
+    ap (flat_map f) (take_more xs i d lt) ∙ (flat_map-append f (take i xs) (last ∷ []) ∙ ap (λ (v : List CellLine). flat_map f (take i xs) ++ v) (append-nil (f last))) in
+    more_cells old x y (flat_map f (take i xs)) (f last) e h ∙ ap (λ (v : List CellLine). old ++ cells_bytes v) (sym more)
+
 pub one_cell : (c : CellLine) → cells_bytes (c ∷ []) ≡ line_bytes (cell_words c)
 unfolding cells_bytes
 one_cell c = append-nil (line_bytes (cell_words c))
@@ -65,6 +74,10 @@ one_cell c = append-nil (line_bytes (cell_words c))
 pub no_cells : cells_bytes [] ≡ []
 unfolding cells_bytes
 no_cells = refl
+
+-- no line is written yet
+pub first_line : (old : List ℕ) → old ≡ old ++ cells_bytes []
+first_line old = sym (append-nil old) ∙ ap (λ (v : List ℕ). old ++ v) (sym no_cells)
 
 -- ---- the line of a cell
 

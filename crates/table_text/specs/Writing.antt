@@ -1,18 +1,16 @@
 -- The one spelling in which a table is written.
-use Rattle.std.specs.Prelude.{ℕ, ◌+◌, List, [], ◌∷◌, ◌++◌, length, map, codes}
+use Rattle.std.specs.Prelude.{ℕ, ◌+◌, ◌*◌, List, [], ◌∷◌, ◌++◌, length, map, flat_map, codes}
 use Rattle.fb_text.specs.Lines.{lines}
 use Rattle.fb_text.specs.Places.{Words}
 use Rattle.fb_text.specs.Unread.{Unread, unread, numbered, at_next_line, after_word}
 use Rattle.fb_text.specs.Written.{lines_bytes}
 use Rattle.moesi_state.specs.declared.State.{State}
-use Rattle.moesi_state.specs.declared.State.TheVariants.{M, O, E, S, I}
+use Rattle.moesi_state.specs.States.{all_states}
 use Rattle.bus_signals.specs.declared.LocalEvent.{LocalEvent}
-use Rattle.bus_signals.specs.declared.LocalEvent.TheVariants.{Read, Write, Pass, Flush}
 use Rattle.bus_signals.specs.declared.BusEvent.{BusEvent}
-use Rattle.bus_signals.specs.declared.BusEvent.TheVariants.{Rd, Rfo, Inv, Urd, Bwr, Uwr, Ubw, Pas, Flu}
 use Rattle.class_relation.specs.declared.LocalAction.{LocalAction}
 use Rattle.class_relation.specs.declared.SnoopAction.{SnoopAction}
-use Rattle.class_relation.specs.Tables.{Table, locals_of, answers_of}
+use Rattle.class_relation.specs.Tables.{Table, locals_of, answers_of, local_events, bus_events}
 use Rattle.table_text.specs.Spelling.{CellLine, local, answer, cell_words}
 
 -- the line of a cell, where it has alternatives
@@ -32,14 +30,15 @@ snoop_line t s e = snoop_given s e (answers_of t s e)
 
 -- the lines of a state, in cell order
 unfoldable pub state_lines : Table → State → List CellLine
-state_lines t s =
-    local_line t s Read ++ local_line t s Write ++ local_line t s Pass ++ local_line t s Flush
-    ++ snoop_line t s Rd ++ snoop_line t s Rfo ++ snoop_line t s Inv ++ snoop_line t s Urd
-    ++ snoop_line t s Bwr ++ snoop_line t s Uwr ++ snoop_line t s Ubw ++ snoop_line t s Pas ++ snoop_line t s Flu
+state_lines t s = flat_map (local_line t s) local_events ++ flat_map (snoop_line t s) bus_events
 
 -- all cells that have alternatives, in cell order
 unfoldable pub cells_of : Table → List CellLine
-cells_of t = state_lines t M ++ state_lines t O ++ state_lines t E ++ state_lines t S ++ state_lines t I
+cells_of t = flat_map (state_lines t) all_states
+
+-- the room that the lines of a state fit in: a line of a cell has at most 256 bytes
+abbrev pub state_room : ℕ
+state_room = 256 * (length local_events + length bus_events)
 
 unfoldable pub cells_bytes : List CellLine → List ℕ
 cells_bytes cells = lines_bytes (map cell_words cells)

@@ -1,17 +1,18 @@
 //! Writing a table.
 
-ghost use Rattle.std.specs.Prelude.{◌≡◌, ◌<◌, ◌≤◌, ◌+◌, ◌*◌, ◌++◌, ◌∷◌, [], length, codes, OnOk, OnErr};
+ghost use Rattle.std.specs.Prelude.{◌≡◌, ◌<◌, ◌≤◌, ◌+◌, ◌*◌, ◌++◌, ◌∷◌, [], length, codes, flat_map, OnOk, OnErr};
 ghost use Rattle.fb_text.specs.Written.{after_words, line_bytes, lines_bytes};
 ghost use Rattle.class_relation.specs.Tables.{IsWhole, locals_of, answers_of};
 ghost use Rattle.class_words.specs.Words.{state_word, local_event_word, bus_event_word, outcome_word};
 ghost use Rattle.table_text.specs.Spelling.{local_words, snoop_words, signal_words, alternative_words, cell_words, local, answer};
-ghost use Rattle.table_text.specs.Writing.{local_line, snoop_line, state_lines, cells_of, cells_bytes, written_table, table_room};
+ghost use Rattle.table_text.specs.Writing.{local_line, snoop_line, state_lines, cells_of, cells_bytes, written_table, table_room, state_room};
+ghost use Rattle.moesi_state.specs.States.{all_states};
 
-use bus_signals::{BusEvent, LocalEvent};
+use bus_signals::{BUS_EVENTS, BusEvent, LOCAL_EVENTS, LocalEvent};
 use class_relation::{LocalAction, SnoopAction, Table};
 use class_words::{bus_event_text, local_event_text, state_text};
 use fb_text::{NoMemory, Text};
-use moesi_state::{Outcome, State};
+use moesi_state::{Outcome, STATES, State};
 
 /// Appends a space and a word.
 fn word(text: &mut Text, word: &str)
@@ -146,37 +147,55 @@ fn snoop_line(text: &mut Text, table: &Table, state: State, event: BusEvent)
     text.push(b"\n");
 }
 
+/// Appends the lines of the cells of a state and these local events.
+fn local_lines(text: &mut Text, table: &Table, state: State, events: &[LocalEvent])
+    requires { 256 * length events.now ≤ text.old.spare }
+    ensures bytes { text.new.bytes ≡ text.old.bytes ++ cells_bytes (flat_map (local_line table.now state) events.now) }
+    ensures spare { text.old.spare ≤ text.new.spare + 256 * length events.now }
+{
+    for event in events {
+        local_line(text, table, state, *event);
+    }
+}
+
+/// Appends the lines of the cells of a state and these bus events.
+fn snoop_lines(text: &mut Text, table: &Table, state: State, events: &[BusEvent])
+    requires { 256 * length events.now ≤ text.old.spare }
+    ensures bytes { text.new.bytes ≡ text.old.bytes ++ cells_bytes (flat_map (snoop_line table.now state) events.now) }
+    ensures spare { text.old.spare ≤ text.new.spare + 256 * length events.now }
+{
+    for event in events {
+        snoop_line(text, table, state, *event);
+    }
+}
+
 /// Appends the lines of a state.
 fn state_lines(text: &mut Text, table: &Table, state: State)
-    requires { 3328 ≤ text.old.spare }
+    requires { state_room ≤ text.old.spare }
     ensures bytes { text.new.bytes ≡ text.old.bytes ++ cells_bytes (state_lines table.now state) }
-    ensures spare { text.old.spare ≤ text.new.spare + 3328 }
+    ensures spare { text.old.spare ≤ text.new.spare + state_room }
 {
-    local_line(text, table, state, LocalEvent::Read);
-    local_line(text, table, state, LocalEvent::Write);
-    local_line(text, table, state, LocalEvent::Pass);
-    local_line(text, table, state, LocalEvent::Flush);
-    snoop_line(text, table, state, BusEvent::Rd);
-    snoop_line(text, table, state, BusEvent::Rfo);
-    snoop_line(text, table, state, BusEvent::Inv);
-    snoop_line(text, table, state, BusEvent::Urd);
-    snoop_line(text, table, state, BusEvent::Bwr);
-    snoop_line(text, table, state, BusEvent::Uwr);
-    snoop_line(text, table, state, BusEvent::Ubw);
-    snoop_line(text, table, state, BusEvent::Pas);
-    snoop_line(text, table, state, BusEvent::Flu);
+    local_lines(text, table, state, &LOCAL_EVENTS);
+    snoop_lines(text, table, state, &BUS_EVENTS);
+}
+
+/// Appends the lines of these states.
+fn lines_of_states(text: &mut Text, table: &Table, states: &[State])
+    requires { state_room * length states.now ≤ text.old.spare }
+    ensures bytes { text.new.bytes ≡ text.old.bytes ++ cells_bytes (flat_map (state_lines table.now) states.now) }
+    ensures spare { text.old.spare ≤ text.new.spare + state_room * length states.now }
+{
+    for state in states {
+        state_lines(text, table, *state);
+    }
 }
 
 fn all_lines(text: &mut Text, table: &Table)
-    requires { 16640 ≤ text.old.spare }
+    requires { state_room * length all_states ≤ text.old.spare }
     ensures bytes { text.new.bytes ≡ text.old.bytes ++ cells_bytes (cells_of table.now) }
-    ensures spare { text.old.spare ≤ text.new.spare + 16640 }
+    ensures spare { text.old.spare ≤ text.new.spare + state_room * length all_states }
 {
-    state_lines(text, table, State::M);
-    state_lines(text, table, State::O);
-    state_lines(text, table, State::E);
-    state_lines(text, table, State::S);
-    state_lines(text, table, State::I);
+    lines_of_states(text, table, &STATES);
 }
 
 /// The room that any written table fits in.

@@ -7,7 +7,7 @@ use Rattle.bus_signals.specs.declared.Access.{Access}
 use Rattle.bus_signals.specs.declared.Access.TheVariants.{Read, Write, Pass, Flush}
 use Rattle.bus_signals.specs.declared.Response.{Response}
 use Rattle.bus_signals.specs.declared.BusEvent.{BusEvent}
-use Rattle.bus_signals.specs.declared.BusEvent.TheVariants.{Rd, Rfo, Inv, Urd, Bwr, Uwr, Ubw, Pas, Flu}
+use Rattle.bus_signals.proofs.Events.{each_bus}
 use Rattle.moesi_state.specs.declared.State.{State}
 use Rattle.moesi_state.specs.declared.State.TheVariants.{M, O, E, S, I}
 use Rattle.moesi_state.specs.declared.Outcome.{Outcome}
@@ -35,15 +35,7 @@ state_ink S = refl
 state_ink I = refl
 
 event_ink : (e : BusEvent) → is_ink (bus_event_word e) ≡ true
-event_ink Rd = refl
-event_ink Rfo = refl
-event_ink Inv = refl
-event_ink Urd = refl
-event_ink Bwr = refl
-event_ink Uwr = refl
-event_ink Ubw = refl
-event_ink Pas = refl
-event_ink Flu = refl
+event_ink e = each_bus (λ e. is_ink (bus_event_word e)) refl e
 
 outcome_ink : (o : Outcome) → is_ink (outcome_word o) ≡ true
 outcome_ink (Fixed s) = state_ink s

@@ -1,5 +1,5 @@
 -- How long the line of an event can be.
-use Rattle.std.proofs.Common.{◌≡◌, ℕ, ◌+◌, ◌*◌, ◌<◌, ◌≤◌, Bool, true, false, List, [], ◌∷◌, ◌++◌, length, map, Option, Some, None, refl, arith, length-append}
+use Rattle.std.proofs.Common.{◌≡◌, ℕ, ◌+◌, ◌*◌, ◌<◌, ◌≤◌, Bool, true, false, List, [], ◌∷◌, ◌++◌, length, map, Option, Some, None, refl, arith, length-append, leb}
 use Rattle.std.specs.Prelude.{decimal, codes}
 use Rattle.std.specs.List.{join_with_byte, AllByRecursion}
 use Rattle.std.proofs.lemmas.Fmt.{length-decimal-le}
@@ -8,7 +8,8 @@ use Rattle.bus_signals.specs.declared.Access.{Access}
 use Rattle.bus_signals.specs.declared.Access.TheVariants.{Read, Write, Pass, Flush}
 use Rattle.bus_signals.specs.declared.Response.{Response}
 use Rattle.bus_signals.specs.declared.BusEvent.{BusEvent}
-use Rattle.bus_signals.specs.declared.BusEvent.TheVariants.{Rd, Rfo, Inv, Urd, Bwr, Uwr, Ubw, Pas, Flu}
+use Rattle.bus_signals.proofs.Events.{each_bus}
+use Rattle.std.proofs.lemmas.Bool.{leb-true}
 use Rattle.moesi_state.specs.declared.State.{State}
 use Rattle.moesi_state.specs.declared.State.TheVariants.{M, O, E, S, I}
 use Rattle.moesi_state.specs.declared.Outcome.{Outcome}
@@ -66,15 +67,7 @@ state_one S = refl
 state_one I = refl
 
 event_three : (e : BusEvent) → length (bus_event_word e) ≤ 3
-event_three Rd = omega arith
-event_three Rfo = omega arith
-event_three Inv = omega arith
-event_three Urd = omega arith
-event_three Bwr = omega arith
-event_three Uwr = omega arith
-event_three Ubw = omega arith
-event_three Pas = omega arith
-event_three Flu = omega arith
+event_three e = leb-true (length (bus_event_word e)) 3 (each_bus (λ e. leb (length (bus_event_word e)) 3) refl e)
 
 outcome_six : (o : Outcome) → length (outcome_word o) ≤ 6
 outcome_six (Fixed s) = let l = state_one s in omega arith
