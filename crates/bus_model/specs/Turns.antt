@@ -1,5 +1,5 @@
 -- Turns: what a board does when it is its turn, with the alternatives that its chooser picks.
-use Rattle.std.specs.Prelude.{ℕ, ◌*◌, ◌%◌, ◌^◌, Bool, true, false, not, ◌&&◌, ◌==◌, List, [], ◌∷◌, ◌++◌, Option, Some, None, length, map, find, unwrap_or, slice_index_or, if◌then◌else◌}
+use Rattle.std.specs.Prelude.{ℕ, ◌*◌, ◌%◌, ◌^◌, Bool, true, false, not, ◌&&◌, ◌==◌, List, [], ◌∷◌, ◌++◌, Option, Some, None, length, map, slice_index_or, if◌then◌else◌}
 use Rattle.rand_core.specs.Pcg32Seed.{pcg32_seed}
 use Rattle.rand_pcg.specs.Lcg.{advance}
 use Rattle.rand_pcg.specs.Pcg.{pcg32, pcg32_of_seed, multiplier_64}
@@ -16,7 +16,7 @@ use Rattle.class_relation.specs.declared.SnoopAction.{SnoopAction}
 use Rattle.class_relation.specs.Actions.{silently, answer}
 use Rattle.class_relation.specs.Tables.{answers_of}
 use Rattle.bus_model.specs.Places.{repeated}
-use Rattle.bus_model.specs.Setup.{Setup, Choose, First, Round, Seed, choose_of, table_of, number_of, board_places, access_count}
+use Rattle.bus_model.specs.Setup.{Setup, Choose, First, Round, Seed, choose_of, table_of, board_places, access_count}
 use Rattle.bus_model.specs.Events.{Event, Local, Drop, Raise, Grant, Connect, DataPhase, Transaction}
 use Rattle.bus_model.specs.Configuration.{Configuration, Phase, Idle, Granted, Connected, opening, state_at, words_at, progress_of, present_access, is_raised, is_granted, is_held}
 use Rattle.bus_model.specs.Board.{access_line, cell_of, victim, is_clean}
