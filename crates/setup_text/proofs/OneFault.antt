@@ -1,6 +1,6 @@
 -- A text has one first fault, and a text that is read has none.
-use Rattle.std.proofs.Common.{◌≡◌, ℕ, suc, ◌⊎◌, inl, inr, List, [], ◌∷◌, ◌++◌, map, refl, sym, ap, subst, ◌∙◌, append_assoc, arith}
-use Rattle.fb_text.specs.Places.{Words, Item, word, line_end, text_end, Place, line_places, lines_places, items, lines_items, BreaksAtWord, Grammar, GoesOn, IsFine, AllFine, IsFault, FirstFault}
+use Rattle.std.proofs.Common.{◌≡◌, ℕ, ◌⊎◌, inl, inr, List, [], ◌∷◌, ◌++◌, refl, sym, ap, subst, ◌∙◌, append_assoc}
+use Rattle.fb_text.specs.Places.{Words, Item, word, line_end, text_end, Place, line_places, lines_places, items, BreaksAtWord, Grammar, IsFine, AllFine, IsFault, FirstFault}
 use Rattle.fb_text.specs.Unread.{Line}
 use Rattle.fb_text.proofs.LineItems.{items_append, same_place, split_append, whole_line}
 use Rattle.setup_text.specs.declared.fault.SetupKind.{SetupKind}

@@ -1,8 +1,8 @@
 -- Each reader finds the first fault of a text, and finds a fault only where there is one.
-use Rattle.std.proofs.Common.{◌≡◌, ℕ, suc, ◌+◌, ◌*◌, ◌<◌, ◌≤◌, ◌⊎◌, inl, inr, Bool, true, false, cond, List, [], ◌∷◌, ◌++◌, map, Result, Ok, Err, refl, sym, ap, subst, ◌∙◌, arith}
-use Rattle.std.specs.Prelude.{codes, decimal, if◌then◌else◌}
+use Rattle.std.proofs.Common.{◌≡◌, ℕ, suc, ◌+◌, ◌*◌, ◌≤◌, inl, inr, Bool, true, false, cond, List, [], ◌∷◌, ◌++◌, map, Result, Ok, Err, refl, sym, ap, subst, ◌∙◌, arith}
+use Rattle.std.specs.Prelude.{codes, if◌then◌else◌}
 use Rattle.std.specs.Str.{bytes_eq}
-use Rattle.fb_text.specs.Places.{Words, Item, Place, lines_places, items, text_places, FirstFault}
+use Rattle.fb_text.specs.Places.{Words, lines_places, items, text_places, FirstFault}
 use Rattle.fb_text.specs.Unread.{Line, unread}
 use Rattle.fb_text.proofs.LineLaws.{first_fault}
 use Rattle.bus_signals.specs.declared.LocalEvent.{LocalEvent}
@@ -17,9 +17,8 @@ use Rattle.setup_text.specs.declared.fault.LimitOf.TheVariants.{Lines, Tables, B
 use Rattle.setup_text.specs.declared.fault.SetupKind.{SetupKind}
 use Rattle.setup_text.specs.declared.fault.SetupKind.TheVariants.{UnknownWord, Limit}
 use Rattle.setup_text.specs.declared.fault.SetupFault.TheVariants as faults
-use Rattle.setup_text.specs.Spelling.{SetupText, TableText, open_rows, open_table_rows, tables_rows}
 use Rattle.setup_text.specs.Values.{tables_of, setup_of}
-use Rattle.setup_text.specs.Grammars.{Slot, first, lines, address, value, name, place, number, table, shape, sets, ways, seed, other, slot_of, JudgedLines, JudgedFirst, JudgedAs, JudgedHead, BreaksSetup, BreaksBook, last_word, kind_of, setup_grammar, book_grammar, schedule_grammar}
+use Rattle.setup_text.specs.Grammars.{Slot, first, lines, address, value, name, place, number, table, shape, sets, ways, seed, other, slot_of, JudgedLines, JudgedFirst, JudgedAs, JudgedHead, BreaksSetup, BreaksBook, kind_of, setup_grammar, book_grammar, schedule_grammar}
 use Rattle.setup_text.specs.Reading.{Mode, BookMode, Fault, on_line, line_at, lines_at, text_ends, setup_at, book_line, book_lines, book_ends, book_at, schedule_at}
 use Rattle.setup_text.specs.FirstFaults.{SetupFaultsAreFirst, BookFaultsAreFirst, ScheduleFaultsAreFirst}
 use Rattle.setup_text.proofs.LineFaults.{decimal_same}
