@@ -20,7 +20,7 @@ pub struct Answer {
 #[derive(Clone, Drop)]
 pub struct Answers {
     items: [Answer; 15],
-    len: usize,
+    len: u8,
 }
 
 impl Model for Answers {
@@ -68,7 +68,7 @@ impl Answers {
         requires above { IsAboveLast (answer_boards self.old) item.board }
         ensures { self.new ≡ self.old ++ item ∷ [] }
     {
-        self.items[self.len] = item;
+        self.items[self.len as usize] = item;
         self.len += 1;
     }
 
@@ -78,7 +78,7 @@ impl Answers {
         ensures short { length self.now ≤ 15 }
         ensures rising { IsRising (answer_boards self.now) }
     {
-        &self.items[..self.len]
+        &self.items[..self.len as usize]
     }
 
     /// The same answers again.

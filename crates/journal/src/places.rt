@@ -10,7 +10,7 @@ use std::marker::Model;
 #[derive(Clone, Drop)]
 pub struct Places {
     items: [BoardNo; 16],
-    len: usize,
+    len: u8,
 }
 
 impl Model for Places {
@@ -41,7 +41,7 @@ impl Places {
         requires above { IsAboveLast self.old item }
         ensures { self.new ≡ self.old ++ item ∷ [] }
     {
-        self.items[self.len] = item;
+        self.items[self.len as usize] = item;
         self.len += 1;
     }
 
@@ -51,6 +51,6 @@ impl Places {
         ensures short { length self.now ≤ 16 }
         ensures rising { IsRising self.now }
     {
-        &self.items[..self.len]
+        &self.items[..self.len as usize]
     }
 }

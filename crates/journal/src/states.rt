@@ -12,7 +12,7 @@ use std::marker::Model;
 #[derive(Clone, Drop)]
 pub struct States {
     items: [(BoardNo, State); 16],
-    len: usize,
+    len: u8,
 }
 
 impl Model for States {
@@ -45,7 +45,7 @@ impl States {
         requires above { IsAboveRest (state_boards self.old) item.0 }
         ensures { self.new ≡ self.old ++ item ∷ [] }
     {
-        self.items[self.len] = item;
+        self.items[self.len as usize] = item;
         self.len += 1;
     }
 
@@ -55,6 +55,6 @@ impl States {
         ensures short { length self.now ≤ 16 }
         ensures rising { RisesAfterFirst (state_boards self.now) }
     {
-        &self.items[..self.len]
+        &self.items[..self.len as usize]
     }
 }

@@ -36,8 +36,8 @@ fn lists_keep_their_items(rt: HostRuntime) {
     );
 }
 
-/// The largest journal, of 800,000 events, is to stay under 100,000,000 bytes.
+/// The largest journal, of 800,000 events, is to stay under 75,000,000 bytes.
 #[test]
 fn events_are_small(rt: HostRuntime) {
-    assert!(rt; size_of::<Event>() <= 125);
+    assert!(rt; size_of::<Event>() <= 93);
 }
