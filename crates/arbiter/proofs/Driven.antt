@@ -4,7 +4,7 @@ use Rattle.std.specs.Prelude.{bit_or}
 use Rattle.std.specs.List.{AllByRecursion}
 use Rattle.std.proofs.lemmas.Bool.{eqb-true, eqb-false}
 use Rattle.std.proofs.lemmas.Nat.{shl-shr, shr-shr, shr_split, shr_le, pow-add, pow_pos, or_shr, or_comm, mod_below, le-div}
-use Rattle.settling.specs.Settling.{wired_lines, has_bit, driven_below}
+use Rattle.bus_model.specs.Settling.{wired_lines, has_bit, driven_below}
 use Rattle.arbiter.proofs.Cover.{Covers, covers_zero, covers_or, covers_half, covers_shifted}
 use Rattle.arbiter.proofs.Members.{In}
 

@@ -2,7 +2,7 @@
 use Rattle.std.proofs.Common.{◌≡◌, ℕ, ◌<◌, ◌≤◌, List, [], ◌∷◌, length, map, max, refl, ap, subst, sym, arith, inl, inr, ◌⊎◌}
 use Rattle.std.specs.List.{AllByRecursion}
 use Rattle.std.proofs.lemmas.Bool.{cases_lt}
-use Rattle.settling.specs.Settling.{highest}
+use Rattle.bus_model.specs.Settling.{highest}
 
 -- A number stands in a list.
 abbrev pub In : ℕ → List ℕ → Type 0

@@ -2,7 +2,7 @@
 use Rattle.std.proofs.Common.{◌≡◌, ◌≢◌, ℕ, zero, suc, ◌+◌, ◌<◌, ◌≤◌, Bool, true, false, ◌&&◌, cond, List, [], ◌∷◌, ◌++◌, Some, None, length, drop, take, refl, sym, ap, ◌∙◌, subst, arith, inl, inr, ◌⊎◌, append_assoc, append-nil}
 use Rattle.std.specs.Prelude.{All, slice_index, slice_index_or, ◌==◌}
 use Rattle.std.proofs.lemmas.Bool.{eqb-true, eq-eqb}
-use Rattle.settling.specs.Settling.{highest}
+use Rattle.bus_model.specs.Settling.{highest}
 use Rattle.arbiter.specs.Contests.{IsNumber, IsContest}
 use Rattle.arbiter.specs.Raised.{raised_numbers, winner_from}
 use Rattle.arbiter.proofs.Members.{In, highest-in}

@@ -2,7 +2,7 @@
 use Rattle.std.proofs.Common.{◌≡◌, ◌≢◌, ℕ, zero, suc, ◌+◌, ◌-◌, ◌/◌, ◌^◌, ◌<◌, ◌≤◌, cond, List, [], ◌∷◌, map, refl, sym, ap, ◌∙◌, subst, arith, inl, inr, ◌⊎◌}
 use Rattle.std.specs.Prelude.{All, ◌==◌}
 use Rattle.std.proofs.lemmas.Bool.{eq-eqb, ne_eqb, cases_lt}
-use Rattle.settling.specs.Settling.{wired_lines, driven, next_lines, lines_after, rounds_from, settled_rounds, settled_lines, SettlesIn, highest}
+use Rattle.bus_model.specs.Settling.{wired_lines, driven, next_lines, lines_after, rounds_from, settled_rounds, settled_lines, SettlesIn, highest}
 use Rattle.arbiter.specs.Contests.{IsNumber, IsContest}
 use Rattle.arbiter.proofs.Cover.{Covers, covers_half}
 use Rattle.arbiter.proofs.Members.{In, all-in, all-map, in-map, highest-in, highest-above}

@@ -2,7 +2,7 @@
 use Rattle.std.proofs.Common.{◌≡◌, ℕ, zero, suc, ◌+◌, ◌<◌, List, [], ◌∷◌, ◌++◌, length, map, take, refl, sym, ap, ◌∙◌, arith}
 use Rattle.std.specs.Prelude.{bit_or, slice_index}
 use Rattle.std.specs.Int.Bits.{or_zero_r}
-use Rattle.settling.specs.Settling.{wired_lines}
+use Rattle.bus_model.specs.Settling.{wired_lines}
 use Rattle.arbiter.proofs.Cover.{or_assoc}
 
 wired_snoc : (xs : List ℕ) (x : ℕ) → wired_lines (xs ++ x ∷ []) ≡ bit_or (wired_lines xs) x

@@ -1,7 +1,7 @@
 //! The requests of the boards for the bus.
 
 ghost use Rattle.std.specs.Prelude.{◌≡◌, ◌==◌, ◌&&◌, ◌↔◌, ◌≤◌, ◌<◌, ◌+◌, ◌++◌, ◌∷◌, [], true, false, Some, None, length, take, IfSome, IfNone, IsNone, if◌then◌else◌};
-ghost use Rattle.settling.specs.Settling.{settled_lines, settled_rounds, highest};
+ghost use Rattle.bus_model.specs.Settling.{settled_lines, settled_rounds, highest};
 ghost use Rattle.arbiter.specs.Contests.{IsContest};
 ghost use Rattle.arbiter.specs.Raised.{raised_numbers, winner_from, competitors, winner_with, IsBoard, has_raised, number_at, nobody_raised, with_request};
 

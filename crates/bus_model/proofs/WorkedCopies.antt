@@ -4,7 +4,7 @@ use Rattle.bus_signals.specs.declared.BusEvent.TheVariants.{Rd, Rfo, Inv, Bwr, U
 use Rattle.moesi_state.specs.declared.State.TheVariants.{M, O, E, S, I}
 use Rattle.moesi_state.specs.declared.Outcome.TheVariants.{Fixed, OnHit}
 use Rattle.class_relation.specs.Actions.{answer}
-use Rattle.settling.specs.Settling.{lines_after, driven_below, rounds_from}
+use Rattle.bus_model.specs.Settling.{lines_after, driven_below, rounds_from}
 use Rattle.bus_model.specs.WorkedWords.{read, write, pass, connection, says}
 use Rattle.bus_model.specs.WorkedRuns.{Plays}
 use Rattle.bus_model.specs.WorkedCopies.{clean_victim, clean_victim_schedule, clean_victim_events, clean_victim_end, captured, captured_schedule, captured_events, captured_end}

@@ -1,7 +1,7 @@
 -- What the definitions of the theorem say of small lines, histories, configurations and runs, each computed.
 use Rattle.std.proofs.Common.{◌≡◌, ℕ, zero, suc, ◌≤◌, [], ◌∷◌, None, refl, arith}
 use Rattle.moesi_state.specs.declared.State.TheVariants.{M, O, E, S}
-use Rattle.settling.specs.Settling.{lines_after, driven_below, rounds_from}
+use Rattle.bus_model.specs.Settling.{lines_after, driven_below, rounds_from}
 use Rattle.bus_model.specs.Events.{Local, Drop, Grant}
 use Rattle.bus_model.specs.Configuration.{present_access}
 use Rattle.bus_model.specs.Steps.{Can}

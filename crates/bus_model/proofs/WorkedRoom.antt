@@ -4,7 +4,7 @@ use Rattle.bus_signals.specs.declared.BusEvent.TheVariants.{Rd, Rfo, Uwr, Ubw, F
 use Rattle.moesi_state.specs.declared.State.TheVariants.{M, O, E, S, I}
 use Rattle.moesi_state.specs.declared.Outcome.TheVariants.{Fixed, OnHit}
 use Rattle.class_relation.specs.Actions.{answer}
-use Rattle.settling.specs.Settling.{lines_after, driven_below, rounds_from}
+use Rattle.bus_model.specs.Settling.{lines_after, driven_below, rounds_from}
 use Rattle.bus_model.specs.WorkedWords.{read, write, flush, connection, says}
 use Rattle.bus_model.specs.WorkedRuns.{Plays}
 use Rattle.bus_model.specs.WorkedRoom.{write_through_word, write_through_word_schedule, write_through_word_events, write_through_word_end, victim_flush, victim_flush_schedule, victim_flush_events, victim_flush_end, given_up, given_up_schedule, given_up_events, given_up_end, alternation, alternation_schedule, alternation_events, alternation_end}

@@ -6,7 +6,7 @@ use Rattle.moesi_state.specs.declared.Outcome.TheVariants.{Fixed, OnHit}
 use Rattle.class_relation.specs.Actions.{answer}
 use Rattle.bus_model.specs.Events.{Transaction, Memory, Board}
 use Rattle.bus_model.specs.Carrying.{no_takers, source_of}
-use Rattle.settling.specs.Settling.{lines_after, driven_below, rounds_from}
+use Rattle.bus_model.specs.Settling.{lines_after, driven_below, rounds_from}
 use Rattle.bus_model.specs.Steps.{Can}
 use Rattle.bus_model.specs.Turns.{turn, Waits, LineHeld}
 use Rattle.bus_model.specs.WorkedWords.{read, write, connection, says, data_of, did}

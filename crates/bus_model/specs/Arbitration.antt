@@ -1,6 +1,6 @@
 -- Arbitration: the boards that compete for the bus, their numbers, and which of them wins.
 use Rattle.std.specs.Prelude.{◌≡◌, ℕ, ◌==◌, List, IsTrue, map, filter, find, unwrap_or}
-use Rattle.settling.specs.Settling.{highest, settled_lines, settled_rounds}
+use Rattle.bus_model.specs.Settling.{highest, settled_lines, settled_rounds}
 use Rattle.bus_model.specs.Setup.{Setup, board_places, number_of}
 use Rattle.bus_model.specs.Configuration.{Progress, is_raised}
 

@@ -20,7 +20,7 @@ use Rattle.bus_model.specs.Setup.{Setup, Choose, First, Round, Seed, choose_of, 
 use Rattle.bus_model.specs.Events.{Event, Local, Drop, Raise, Grant, Connect, DataPhase, Transaction}
 use Rattle.bus_model.specs.Configuration.{Configuration, Phase, Idle, Granted, Connected, opening, state_at, words_at, progress_of, present_access, is_raised, is_granted, is_held}
 use Rattle.bus_model.specs.Board.{access_line, cell_of, victim, is_clean}
-use Rattle.settling.specs.Settling.{settled_lines, settled_rounds}
+use Rattle.bus_model.specs.Settling.{settled_lines, settled_rounds}
 use Rattle.bus_model.specs.Arbitration.{competing_numbers, winner_of}
 use Rattle.bus_model.specs.Connecting.{other_holders}
 use Rattle.bus_model.specs.Carrying.{carried_of, reply_of}

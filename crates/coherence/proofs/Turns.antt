@@ -1,5 +1,5 @@
 -- What a turn does from a sound configuration is a step.
-use Rattle.settling.specs.Settling.{highest}
+use Rattle.bus_model.specs.Settling.{highest}
 use Rattle.bus_model.specs.Arbitration.{competing, competing_numbers, winner_of}
 use Rattle.bus_model.specs.Board.{access_line, cell_of, is_clean, is_full, needs_bus, victim}
 use Rattle.bus_model.specs.Carrying.{carried_of, reply_of}

@@ -7,10 +7,10 @@ use Rattle.trace_text.specs.Spelling.{text_of_event}
 use Rattle.bus_model.specs.Setup.{Setup}
 use Rattle.bus_model.specs.Events.{Event}
 use Rattle.backplane.specs.Machine.{Machine, configuration_after, happened, opened, MayHappen}
-use Rattle.trace_lines.specs.declared.fault.ReplayFault.TheVariants.{Spelling, NotARun, Unfinished}
-use Rattle.trace_lines.specs.Lines.{Line, closed_line, event_of, event_lines}
-use Rattle.trace_lines.specs.Replaying.{by_step, by_event, outcome}
-use Rattle.trace_lines.proofs.Meanings.{event_spelled}
+use Rattle.replayer.specs.declared.fault.ReplayFault.TheVariants.{Spelling, NotARun, Unfinished}
+use Rattle.replayer.specs.Lines.{Line, closed_line, event_of, event_lines}
+use Rattle.replayer.specs.Traces.{by_step, by_event, outcome}
+use Rattle.replayer.proofs.Meanings.{event_spelled}
 use Rattle.replayer.specs.Replaying.{step, accepted, close}
 use Rattle.replayer.specs.Runs.{BeginWithRun, IsOnlyAnswer}
 use Rattle.replayer.proofs.Stepping.{step_may, step_not}

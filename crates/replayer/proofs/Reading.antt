@@ -3,14 +3,14 @@ use Rattle.std.proofs.Common.{◌≡◌, ℕ, ◌+◌, Bool, true, false, List, 
 use Rattle.std.specs.Prelude.{nat_le, if◌then◌else◌}
 use Rattle.bus_model.specs.Events.{Event}
 use Rattle.backplane.specs.Machine.{Machine, opened}
-use Rattle.trace_lines.specs.declared.fault.ReplayFault.TheVariants.{Spelling}
-use Rattle.trace_lines.specs.declared.reader.Found.{Found}
-use Rattle.trace_lines.specs.declared.reader.Found.TheVariants as found
-use Rattle.trace_lines.specs.Lines.{last_line, lines_of, is_end_word, event_in}
-use Rattle.trace_lines.specs.Reader.{LacksFeed, found_event, found_in}
-use Rattle.trace_lines.specs.Replaying.{Place, reading, ended, refused, by_event, at_open, at_closed, follow, fed, left_by, longest}
-use Rattle.trace_lines.proofs.Cutting.{lines_none, lines_closed, lines_open}
-use Rattle.trace_lines.proofs.Fed.{closed_fed}
+use Rattle.replayer.specs.declared.fault.ReplayFault.TheVariants.{Spelling}
+use Rattle.replayer.specs.declared.reader.Found.{Found}
+use Rattle.replayer.specs.declared.reader.Found.TheVariants as found
+use Rattle.replayer.specs.Lines.{last_line, lines_of, is_end_word, event_in}
+use Rattle.replayer.specs.Reader.{LacksFeed, found_event, found_in}
+use Rattle.replayer.specs.Traces.{Place, reading, ended, refused, by_event, at_open, at_closed, follow, fed, left_by, longest}
+use Rattle.replayer.proofs.Cutting.{lines_none, lines_closed, lines_open}
+use Rattle.replayer.proofs.Fed.{closed_fed}
 use Rattle.replayer.specs.declared.stage.Stage.{Stage}
 use Rattle.replayer.specs.declared.stage.Stage.TheVariants.{Reading, Ended, Refused}
 use Rattle.replayer.specs.Replaying.{step}

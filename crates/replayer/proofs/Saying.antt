@@ -8,11 +8,11 @@ use Rattle.bus_model.specs.Events.{Event}
 use Rattle.bus_model.specs.Configuration.{present_access}
 use Rattle.bus_model.specs.Runs.{Complete}
 use Rattle.backplane.specs.Machine.{Machine, configuration, configuration_after, opened}
-use Rattle.trace_lines.specs.declared.fault.ReplayFault.{ReplayFault}
-use Rattle.trace_lines.specs.declared.fault.ReplayFault.TheVariants.{Spelling, NotARun, Unfinished}
-use Rattle.trace_lines.specs.Lines.{Line, closed_line, event_of, event_lines}
-use Rattle.trace_lines.specs.Replaying.{outcome}
-use Rattle.trace_lines.proofs.Meanings.{event_spelled}
+use Rattle.replayer.specs.declared.fault.ReplayFault.{ReplayFault}
+use Rattle.replayer.specs.declared.fault.ReplayFault.TheVariants.{Spelling, NotARun, Unfinished}
+use Rattle.replayer.specs.Lines.{Line, closed_line, event_of, event_lines}
+use Rattle.replayer.specs.Traces.{outcome}
+use Rattle.replayer.proofs.Meanings.{event_spelled}
 use Rattle.replayer.specs.Replaying.{step, lowest_unfinished, accepted, close}
 use Rattle.replayer.specs.Runs.{BeginWithRun, AreCompleteRun, Says, Accepts}
 use Rattle.replayer.proofs.Tracing.{after_events, Begin, Traced, line_is, traced, traced_all, after_is, leads_of, may_of}

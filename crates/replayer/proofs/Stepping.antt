@@ -2,9 +2,9 @@
 use Rattle.std.proofs.Common.{◌≡◌, ℕ, ◌+◌, ◌⊎◌, inl, inr, [], ◌∷◌, Option, Some, None, refl, sym, ap, ◌∙◌, arith, length-append}
 use Rattle.bus_model.specs.Events.{Event}
 use Rattle.backplane.specs.Machine.{Machine, configuration, happened, MayHappen}
-use Rattle.trace_lines.specs.declared.fault.ReplayFault.TheVariants.{NotARun}
-use Rattle.trace_lines.specs.Replaying.{reading, refused, by_step}
-use Rattle.step_test.proofs.Steps.{decided}
+use Rattle.replayer.specs.declared.fault.ReplayFault.TheVariants.{NotARun}
+use Rattle.replayer.specs.Traces.{reading, refused, by_step}
+use Rattle.coherence.proofs.Decided.{decided}
 use Rattle.replayer.specs.declared.stage.Stage.TheVariants.{Reading, Refused}
 use Rattle.replayer.specs.Replaying.{step, stepped}
 use Rattle.replayer.specs.Standing.{number_of_next, place_of, at_event}

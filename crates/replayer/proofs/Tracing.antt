@@ -9,12 +9,12 @@ use Rattle.bus_model.specs.Configuration.{Configuration, opening}
 use Rattle.bus_model.specs.Steps.{after}
 use Rattle.bus_model.specs.Runs.{Leads, after_all}
 use Rattle.backplane.specs.Machine.{Machine, configuration, happened, MayHappen}
-use Rattle.trace_lines.specs.declared.fault.ReplayFault.{ReplayFault}
-use Rattle.trace_lines.specs.declared.fault.ReplayFault.TheVariants.{Spelling, NotARun, Unfinished}
-use Rattle.trace_lines.specs.Lines.{Line, closed_line, event_in, event_of, event_lines}
-use Rattle.trace_lines.specs.Replaying.{by_step, by_event, outcome}
-use Rattle.trace_lines.proofs.Meanings.{event_spelled, spelled_is}
-use Rattle.step_test.proofs.Steps.{decided}
+use Rattle.replayer.specs.declared.fault.ReplayFault.{ReplayFault}
+use Rattle.replayer.specs.declared.fault.ReplayFault.TheVariants.{Spelling, NotARun, Unfinished}
+use Rattle.replayer.specs.Lines.{Line, closed_line, event_in, event_of, event_lines}
+use Rattle.replayer.specs.Traces.{by_step, by_event, outcome}
+use Rattle.replayer.proofs.Meanings.{event_spelled, spelled_is}
+use Rattle.coherence.proofs.Decided.{decided}
 use Rattle.replayer.specs.Replaying.{step, lowest_unfinished, accepted, close}
 use Rattle.replayer.proofs.Stepping.{step_may, step_not}
 

@@ -5,10 +5,10 @@ use Rattle.bus_model.specs.Setup.{board_places}
 use Rattle.bus_model.specs.Events.{Event}
 use Rattle.bus_model.specs.Configuration.{present_access}
 use Rattle.backplane.specs.Machine.{Machine, configuration, happened, MayHappen}
-use Rattle.trace_lines.specs.declared.fault.ReplayFault.{ReplayFault}
-use Rattle.trace_lines.specs.declared.fault.ReplayFault.TheVariants.{Unfinished}
-use Rattle.trace_lines.specs.Replaying as lines
-use Rattle.step_test.proofs.Steps.{decided}
+use Rattle.replayer.specs.declared.fault.ReplayFault.{ReplayFault}
+use Rattle.replayer.specs.declared.fault.ReplayFault.TheVariants.{Unfinished}
+use Rattle.replayer.specs.Traces as lines
+use Rattle.coherence.proofs.Decided.{decided}
 
 -- The machine after an event that may happen, and none after one that may not.
 abbrev pub stepped : (machine : Machine) (event : Event) → MayHappen machine event ⊎ (MayHappen machine event → ⊥) → Option Machine

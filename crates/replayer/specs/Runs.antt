@@ -8,9 +8,9 @@ use Rattle.bus_model.specs.Events.{Event}
 use Rattle.bus_model.specs.Steps.{Can}
 use Rattle.bus_model.specs.Runs.{Run, Complete}
 use Rattle.backplane.specs.Machine.{Machine, configuration_after}
-use Rattle.trace_lines.specs.declared.fault.ReplayFault.{ReplayFault}
-use Rattle.trace_lines.specs.declared.fault.ReplayFault.TheVariants.{Spelling, NotARun, Unfinished}
-use Rattle.trace_lines.specs.Lines.{Line, closed_line, event_lines}
+use Rattle.replayer.specs.declared.fault.ReplayFault.{ReplayFault}
+use Rattle.replayer.specs.declared.fault.ReplayFault.TheVariants.{Spelling, NotARun, Unfinished}
+use Rattle.replayer.specs.Lines.{Line, closed_line, event_lines}
 use Rattle.replayer.specs.Replaying.{lowest_unfinished}
 
 -- These lines are those of the events of a run of a setup, and then the rest.

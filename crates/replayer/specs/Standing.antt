@@ -3,10 +3,10 @@ use Rattle.std.specs.Prelude.{◌≡◌, ℕ, ◌+◌, List, [], length}
 use Rattle.bus_model.specs.Setup.{Setup}
 use Rattle.bus_model.specs.Events.{Event}
 use Rattle.backplane.specs.Machine.{Machine, opened}
-use Rattle.trace_lines.specs.declared.fault.ReplayFault.TheVariants.{Spelling}
-use Rattle.trace_lines.specs.declared.reader.Found.{Found}
-use Rattle.trace_lines.specs.declared.reader.Found.TheVariants as found
-use Rattle.trace_lines.specs.Replaying.{Place, reading, ended, refused, by_step, left_by}
+use Rattle.replayer.specs.declared.fault.ReplayFault.TheVariants.{Spelling}
+use Rattle.replayer.specs.declared.reader.Found.{Found}
+use Rattle.replayer.specs.declared.reader.Found.TheVariants as found
+use Rattle.replayer.specs.Traces.{Place, reading, ended, refused, by_step, left_by}
 use Rattle.replayer.specs.declared.stage.Stage.{Stage}
 use Rattle.replayer.specs.declared.stage.Stage.TheVariants.{Reading, Ended, Refused}
 use Rattle.replayer.specs.Replaying.{step}

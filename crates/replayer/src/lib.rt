@@ -4,11 +4,16 @@
 //! cut anywhere. No call here takes memory.
 #![tactic(auto)]
 
+mod fault;
+mod laws;
 mod pieces;
+mod reader;
 mod stage;
 mod steps;
 mod whole;
 
+pub use fault::ReplayFault;
+pub use laws::printed_events_are_traces;
 pub use pieces::Replay;
-pub use trace_lines::ReplayFault;
+pub use reader::{Found, Reader, first_line};
 pub use whole::replay;

@@ -3,9 +3,9 @@
 ghost use Rattle.std.specs.Prelude.{◌≡◌, ◌↔◌, ◌++◌, ℕ, List, [], ◌∷◌, IsTrue, IfOk};
 ghost use Rattle.bus_model.specs.Runs.{Complete};
 ghost use Rattle.backplane.specs.Machine.{opened, configuration};
-ghost use Rattle.trace_lines.specs.Lines.{trace_of};
-ghost use Rattle.trace_lines.specs.Reader.{LacksFeed};
-ghost use Rattle.trace_lines.specs.Replaying.{fed, ending};
+ghost use Rattle.replayer.specs.Lines.{trace_of};
+ghost use Rattle.replayer.specs.Reader.{LacksFeed};
+ghost use Rattle.replayer.specs.Traces.{fed, ending};
 ghost use Rattle.replayer.specs.Replaying.{step, close, replayed};
 ghost use Rattle.replayer.specs.Runs.{Says, Accepts, IsOnlyAnswer};
 ghost use Rattle.replayer.specs.Standing.{StandsFor, IsReading};
@@ -14,7 +14,8 @@ use crate::stage::Stage;
 use crate::steps::{close, misspelled, next_line, take};
 use backplane::Machine;
 use std::marker::Model;
-use trace_lines::{Reader, ReplayFault, first_line};
+use crate::fault::ReplayFault;
+use crate::reader::{Reader, first_line};
 
 /// A machine, and how far a trace has brought it.
 #[derive(Drop)]

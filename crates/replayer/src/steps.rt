@@ -3,7 +3,7 @@
 ghost use Rattle.std.specs.Prelude.{◌≡◌, [], IfOk};
 ghost use Rattle.bus_model.specs.Runs.{Complete};
 ghost use Rattle.backplane.specs.Machine.{configuration};
-ghost use Rattle.trace_lines.specs.declared.fault.ReplayFault.TheVariants.{Spelling};
+ghost use Rattle.replayer.specs.declared.fault.ReplayFault.TheVariants.{Spelling};
 ghost use Rattle.replayer.specs.declared.stage.Stage.TheVariants.{Refused};
 ghost use Rattle.replayer.specs.Replaying.{close};
 ghost use Rattle.replayer.specs.Standing.{number_of_next, place_of, at_event, at_found};
@@ -11,7 +11,8 @@ ghost use Rattle.replayer.specs.Standing.{number_of_next, place_of, at_event, at
 use crate::stage::Stage;
 use backplane::Machine;
 use journal::Event;
-use trace_lines::{Found, ReplayFault};
+use crate::fault::ReplayFault;
+use crate::reader::Found;
 
 /// The number of the line that is read next.
 pub fn next_line(machine: &Machine) -> u64

@@ -1,13 +1,13 @@
 //! A trace that is there as a whole.
 
 ghost use Rattle.std.specs.Prelude.{◌≡◌, []};
-ghost use Rattle.trace_lines.specs.Lines.{trace_of};
+ghost use Rattle.replayer.specs.Lines.{trace_of};
 ghost use Rattle.replayer.specs.Replaying.{replayed};
 ghost use Rattle.replayer.specs.Runs.{Says, Accepts, IsOnlyAnswer};
 
 use crate::pieces::Replay;
 use backplane::Machine;
-use trace_lines::ReplayFault;
+use crate::fault::ReplayFault;
 
 /// Replays a trace on a machine at its opening. It gives the machine after the events of the trace exactly where they are
 /// a complete run of its setup.

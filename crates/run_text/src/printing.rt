@@ -4,7 +4,7 @@ ghost use Rattle.std.specs.Prelude.{◌≡◌, ◌≤◌, ◌+◌, ◌++◌, [],
 ghost use Rattle.std.specs.List.{flat_map, AllByRecursion};
 ghost use Rattle.trace_text.specs.Ranges.{InRange};
 ghost use Rattle.trace_text.specs.Spelling.{line_of_event};
-ghost use Rattle.run_lines.specs.RunLines.{IsTyped};
+ghost use Rattle.run_text.specs.RunLines.{IsTyped};
 ghost use Rattle.run_text.specs.Lines.{entry_line};
 ghost use Rattle.run_text.specs.RunText.{events_text};
 ghost use Rattle.run_text.specs.Printing.{Paged, IsReady};
@@ -15,7 +15,7 @@ use fb_edge::{PutFailed, Sink};
 use fb_text::Text;
 use flat_memory::Entry;
 use journal::Event;
-use run_lines::is_typed;
+use crate::spelled::is_typed;
 use trace_text::write_event;
 
 /// Prints a line and empties it.

@@ -2,7 +2,7 @@
 
 ghost use Rattle.std.specs.Prelude.{◌≡◌, ◌≤◌, ◌-◌, length, slice_index_or, []};
 ghost use Rattle.class_relation.specs.Rows.{rows};
-ghost use Rattle.table_check.specs.Setup.{WellFormed, access_count};
+ghost use Rattle.setup.specs.Setup.{WellFormed, access_count};
 
 use bus_signals::{Access, BoardNo};
 use class_relation::Table;
@@ -20,7 +20,7 @@ pub struct Setup {
 
 impl Model for Setup {
     ghost use Rattle.class_relation.specs.Rows.{rows};
-    ghost use Rattle.table_check.specs.Setup.{Setup, WellFormed};
+    ghost use Rattle.setup.specs.Setup.{Setup, WellFormed};
 
     ghost Value = { Setup };
 

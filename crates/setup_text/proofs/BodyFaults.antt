@@ -14,7 +14,7 @@ use Rattle.class_words.specs.Words.{local_event_word, local_event_of}
 use Rattle.class_words.proofs.WordLaws.{local_event_is, local_event_again}
 use Rattle.class_relation.specs.Names.{is_name}
 use Rattle.class_relation.specs.Tables.{empty_table}
-use Rattle.table_check.specs.Setup.{Setup, access_count}
+use Rattle.setup.specs.Setup.{Setup, access_count}
 use Rattle.table_text.specs.Reading.{◌>>=◌}
 use Rattle.setup_text.specs.declared.fault.LimitOf.TheVariants.{Boards, Accesses}
 use Rattle.setup_text.specs.declared.fault.SetupKind.{SetupKind}

@@ -17,7 +17,7 @@ use Rattle.table_check.specs.declared.boards.Choose.{Choose}
 use Rattle.class_relation.specs.Rows.{rows}
 use Rattle.class_relation.specs.Tables.{Table, empty_table}
 use Rattle.table_check.specs.Reached.{Reached, is_reached}
-use Rattle.table_check.specs.Setup.{Setup, BoardFits, ShapeFits, access_count}
+use Rattle.setup.specs.Setup.{Setup, BoardFits, ShapeFits, access_count}
 use Rattle.table_check.proofs.Reaching.{reached-test, test-reached}
 use Rattle.setup_text.specs.Drafts.{with_access, access_added, Named, named, found_name, stays_invalid, AreTables, IsDraft, IsKnown, IsShape}
 use Rattle.setup_text.proofs.Naming.{found_new}

@@ -9,7 +9,7 @@ use Rattle.std.proofs.lemmas.List.Sums.{sum_by_push}
 use Rattle.bus_signals.specs.declared.Access.{Access}
 use Rattle.bus_signals.specs.Accesses.{address_of}
 use Rattle.table_check.specs.declared.boards.BoardSpec.{BoardSpec}
-use Rattle.table_check.specs.Setup.{Setup, BoardFits, line_count, access_count}
+use Rattle.setup.specs.Setup.{Setup, BoardFits, line_count, access_count}
 use Rattle.setup_text.specs.Drafts.{with_word, with_board, access_added, IsDraft}
 use Rattle.setup_text.specs.Reading.{has_number}
 

@@ -16,7 +16,7 @@ use Rattle.bus_signals.specs.declared.LocalEvent.{LocalEvent}
 use Rattle.bus_signals.specs.declared.LocalEvent.TheVariants as events
 use Rattle.class_words.specs.Words.{local_event_word}
 use Rattle.class_relation.specs.Names.{is_name}
-use Rattle.table_check.specs.Setup.{access_count}
+use Rattle.setup.specs.Setup.{access_count}
 use Rattle.table_text.specs.Reading.{◌>>=◌}
 use Rattle.setup_text.specs.declared.fault.SetupKind.{SetupKind}
 use Rattle.setup_text.specs.declared.fault.SetupKind.TheVariants.{UnknownWord, Number}

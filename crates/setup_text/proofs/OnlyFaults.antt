@@ -9,7 +9,7 @@ use Rattle.bus_signals.specs.declared.LocalEvent.{LocalEvent}
 use Rattle.bus_signals.specs.declared.LocalEvent.TheVariants.{Read, Write, Pass, Flush}
 use Rattle.class_words.specs.Words.{local_event_word}
 use Rattle.class_relation.specs.Tables.{Table}
-use Rattle.table_check.specs.Setup.{Setup}
+use Rattle.setup.specs.Setup.{Setup}
 use Rattle.table_text.specs.declared.fault.TableKind.{TableKind}
 use Rattle.table_text.specs.Reading.{◌>>=◌}
 use Rattle.table_text.specs.Spelling.{bar, bars, cell_words, BreaksCell}

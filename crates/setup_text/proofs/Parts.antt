@@ -8,8 +8,8 @@ use Rattle.bus_signals.specs.declared.Access.{Access}
 use Rattle.bus_signals.specs.Accesses.{address_of}
 use Rattle.class_relation.specs.Tables.{Table, empty_table}
 use Rattle.table_check.specs.declared.boards.BoardSpec.{BoardSpec}
-use Rattle.table_check.specs.Setup.{Setup, WellFormed, line_count, access_count}
-use Rattle.table_check.specs.Setup as checked
+use Rattle.setup.specs.Setup.{Setup, WellFormed, line_count, access_count}
+use Rattle.setup.specs.Setup as checked
 use Rattle.table_text.specs.Spelling.{CellLine, entered, all_entered, table_of}
 use Rattle.setup_text.specs.Spelling.{TableText, BoardText, SetupText, memory_row, word_row, board_row, access_row, table_rows, board_rows, tables_rows, open_rows, AccessFits, WordFits, TableFits, BoardFits}
 use Rattle.setup_text.specs.Values.{words_set, memory_of, tables_of, board_of, setup_of}

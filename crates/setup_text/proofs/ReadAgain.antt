@@ -4,7 +4,7 @@ use Rattle.fb_text.specs.Lines.{lines}
 use Rattle.fb_text.specs.Unread.{Line, unread, numbered}
 use Rattle.fb_text.specs.Places.{Words, text_end, items, lines_items, lines_places, text_places}
 use Rattle.fb_text.proofs.Spaced.{numbered_rows, lines_numbered}
-use Rattle.table_check.specs.Setup.{Setup}
+use Rattle.setup.specs.Setup.{Setup}
 use Rattle.table_text.specs.Reading.{◌>>=◌}
 use Rattle.setup_text.specs.declared.fault.SetupFault.{SetupFault}
 use Rattle.setup_text.specs.declared.fault.SetupFault.TheVariants as faults

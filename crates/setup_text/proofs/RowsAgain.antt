@@ -18,8 +18,8 @@ use Rattle.table_check.specs.declared.boards.BoardSpec.{BoardSpec}
 use Rattle.table_check.specs.declared.boards.Shape.{Shape}
 use Rattle.table_check.specs.declared.boards.Shape.TheVariants.{Plain, Cached}
 use Rattle.table_check.specs.Reached.{Reached, is_reached}
-use Rattle.table_check.specs.Setup.{Setup, WellFormed, access_count}
-use Rattle.table_check.specs.Setup as checked
+use Rattle.setup.specs.Setup.{Setup, WellFormed, access_count}
+use Rattle.setup.specs.Setup as checked
 use Rattle.table_check.proofs.Reaching.{test-reached}
 use Rattle.table_text.specs.Reading.{◌>>=◌}
 use Rattle.table_text.specs.Spelling.{CellLine, cell_words, entered, all_entered, table_of}

@@ -8,7 +8,7 @@ use Rattle.fb_text.specs.Unread.{Line, unread}
 use Rattle.fb_text.proofs.LineItems.{from, item_at}
 use Rattle.fb_text.proofs.LineLaws.{BeginsLine, HasNext, NoLine, FreeFront, FaultBehind, first_fault, stops_in_line, behind_line, text_stops, unfit_fault, judged_fault}
 use Rattle.class_relation.specs.Tables.{Table}
-use Rattle.table_check.specs.Setup.{Setup}
+use Rattle.setup.specs.Setup.{Setup}
 use Rattle.table_text.specs.declared.fault.TableKind.{TableKind}
 use Rattle.table_text.specs.Reading.{◌>>=◌, table_line}
 use Rattle.table_text.specs.Spelling.{CellLine, cell_words, HasAlternative, BreaksCell, table_of}

@@ -11,8 +11,8 @@ use Rattle.class_words.specs.Words.{local_event_word, local_event_of}
 use Rattle.class_words.proofs.WordLaws.{local_event_is}
 use Rattle.class_relation.specs.Tables.{Table, empty_table}
 use Rattle.table_check.specs.declared.boards.BoardSpec.{BoardSpec}
-use Rattle.table_check.specs.Setup.{Setup, access_count}
-use Rattle.table_check.specs.Setup as checked
+use Rattle.setup.specs.Setup.{Setup, access_count}
+use Rattle.setup.specs.Setup as checked
 use Rattle.table_text.specs.declared.fault.TableKind.{TableKind}
 use Rattle.table_text.specs.Reading.{◌>>=◌, table_line}
 use Rattle.table_text.specs.Spelling.{CellLine, cell_words, entered, all_entered, table_of, HasAlternative}

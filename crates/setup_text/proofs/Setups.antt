@@ -4,7 +4,7 @@ use Rattle.std.specs.Prelude.{IfOk}
 use Rattle.std.proofs.lemmas.List.{append-nil, length-map}
 use Rattle.fb_text.specs.Places.{Words, lines_items, text_end}
 use Rattle.fb_text.specs.Unread.{Line, unread}
-use Rattle.table_check.specs.Setup.{Setup}
+use Rattle.setup.specs.Setup.{Setup}
 use Rattle.table_text.specs.Reading.{◌>>=◌}
 use Rattle.setup_text.specs.declared.fault.SetupKind.{SetupKind}
 use Rattle.setup_text.specs.declared.fault.SetupFault.{SetupFault}

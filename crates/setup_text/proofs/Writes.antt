@@ -11,7 +11,7 @@ use Rattle.bus_signals.specs.declared.Access.{Access}
 use Rattle.class_relation.specs.Tables.{Table}
 use Rattle.table_check.specs.declared.boards.BoardSpec.{BoardSpec}
 use Rattle.table_text.specs.Writing.{written_table}
-use Rattle.table_check.specs.Setup.{Setup, line_count}
+use Rattle.setup.specs.Setup.{Setup, line_count}
 use Rattle.setup_text.specs.Spelling.{BoardText, end_row, memory_row, word_row, board_row, shape_words, choose_words, table_rows, tables_rows, board_rows}
 use Rattle.setup_text.specs.Writing.{words_from, text_of_table, text_of_board, boards_from, written_setup}
 

@@ -9,8 +9,8 @@ use Rattle.class_relation.specs.Tables.{Table, empty_table, IsWhole}
 use Rattle.table_check.specs.declared.boards.BoardSpec.{BoardSpec}
 use Rattle.table_check.specs.declared.boards.Shape.{Shape}
 use Rattle.table_check.specs.declared.boards.Shape.TheVariants.{Plain, Cached}
-use Rattle.table_check.specs.Setup.{Setup}
-use Rattle.table_check.specs.Setup as checked
+use Rattle.setup.specs.Setup.{Setup}
+use Rattle.setup.specs.Setup as checked
 use Rattle.setup_text.specs.Spelling.{BoardText, ShapeFits, BoardFits, ChooseFits, AccessFits}
 use Rattle.setup_text.specs.Values.{board_of}
 use Rattle.setup_text.specs.Correct.{InPlaces}

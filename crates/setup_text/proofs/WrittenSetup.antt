@@ -6,8 +6,8 @@ use Rattle.fb_text.specs.Unread.{unread, numbered}
 use Rattle.fb_text.specs.Places.{Words, items, lines_items, lines_places, text_places}
 use Rattle.fb_text.proofs.Spaced.{lines_again}
 use Rattle.class_relation.specs.Tables.{Table}
-use Rattle.table_check.specs.Setup.{Setup, WellFormed, line_count}
-use Rattle.table_check.specs.Setup as checked
+use Rattle.setup.specs.Setup.{Setup, WellFormed, line_count}
+use Rattle.setup.specs.Setup as checked
 use Rattle.setup_text.specs.Spelling.{setup_rows, SetupFits, setup_items}
 use Rattle.setup_text.specs.Values.{board_of, setup_of}
 use Rattle.setup_text.specs.Correct.{SetupStands, IsSetup}

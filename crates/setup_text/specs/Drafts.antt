@@ -10,7 +10,7 @@ use Rattle.table_check.specs.declared.boards.BoardSpec.{BoardSpec}
 use Rattle.table_check.specs.declared.boards.Shape.{Shape}
 use Rattle.table_check.specs.declared.boards.Shape.TheVariants.{Plain, Cached}
 use Rattle.table_check.specs.Reached.{is_reached}
-use Rattle.table_check.specs.Setup.{Setup, BoardFits, line_count, access_count}
+use Rattle.setup.specs.Setup.{Setup, BoardFits, line_count, access_count}
 
 -- ---- changes
 

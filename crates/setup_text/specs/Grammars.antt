@@ -9,7 +9,7 @@ use Rattle.class_words.specs.Words.{local_event_word}
 use Rattle.class_relation.specs.Tables.{Table}
 use Rattle.table_check.specs.declared.boards.BoardSpec.{BoardSpec}
 use Rattle.table_check.specs.Reached.{Reached}
-use Rattle.table_check.specs.Setup.{Setup, access_count}
+use Rattle.setup.specs.Setup.{Setup, access_count}
 use Rattle.table_text.specs.declared.fault.TableKind.{TableKind}
 use Rattle.table_text.specs.declared.fault.TableKind.TheVariants as table_kinds
 use Rattle.table_text.specs.Spelling.{cell_words, BreaksCell}

@@ -4,7 +4,7 @@ use Rattle.std.specs.List.{flat_map}
 use Rattle.std.specs.Str.{bytes_eq}
 use Rattle.class_relation.specs.Tables.{Table}
 use Rattle.table_check.specs.declared.boards.BoardSpec.{BoardSpec}
-use Rattle.table_check.specs.Setup.{Setup}
+use Rattle.setup.specs.Setup.{Setup}
 use Rattle.table_text.specs.Spelling.{table_of}
 use Rattle.setup_text.specs.Spelling.{TableText, BoardText, SetupText}
 

@@ -8,7 +8,7 @@ use Rattle.fb_text.specs.Written.{lines_bytes}
 use Rattle.bus_signals.specs.declared.Access.{Access}
 use Rattle.class_relation.specs.Tables.{Table, empty_table, IsWhole}
 use Rattle.table_check.specs.declared.boards.BoardSpec.{BoardSpec}
-use Rattle.table_check.specs.Setup.{Setup, WellFormed, line_count, access_count}
+use Rattle.setup.specs.Setup.{Setup, WellFormed, line_count, access_count}
 use Rattle.table_text.specs.Writing.{cells_of, table_room}
 use Rattle.setup_text.specs.declared.fault.SetupKind.TheVariants.{UnknownWord}
 use Rattle.setup_text.specs.declared.fault.SetupFault.{SetupFault}

@@ -2,7 +2,7 @@
 
 ghost use Rattle.std.specs.Prelude.{◌≡◌, ◌<◌, ◌≤◌, ◌*◌, true, false, map, length, IfOk};
 ghost use Rattle.table_text.specs.Reading.{StaysOnLine};
-ghost use Rattle.table_check.specs.Setup.{BoardFits};
+ghost use Rattle.setup.specs.Setup.{BoardFits};
 ghost use Rattle.setup_text.specs.Drafts.{IsKnown, IsShape};
 ghost use Rattle.setup_text.specs.Reading.{Gives, number_at, choose_at, frames_at, shape_at, place_at, has_number, board_number_at, table_name_at, board_front, board_table, board_back, board_line};
 

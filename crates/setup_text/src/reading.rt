@@ -4,7 +4,7 @@ ghost use Rattle.std.specs.Prelude.{◌≡◌, ◌<◌, ◌≤◌, ◌^◌, ◌�
 ghost use Rattle.std.specs.Str.{bytes_eq};
 ghost use Rattle.fb_text.specs.Places.{items, text_places};
 ghost use Rattle.fb_text.specs.Unread.{unread};
-ghost use Rattle.table_check.specs.Setup.{Setup};
+ghost use Rattle.setup.specs.Setup.{Setup};
 ghost use Rattle.table_text.specs.Reading.{StaysOnLine};
 ghost use Rattle.setup_text.specs.Spelling.{SetupText, setup_items};
 ghost use Rattle.setup_text.specs.Values.{setup_of};

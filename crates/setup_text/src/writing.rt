@@ -6,7 +6,7 @@ ghost use Rattle.fb_text.specs.Places.{items, lines_items, text_places};
 ghost use Rattle.fb_text.specs.Written.{after_words, line_bytes, lines_bytes};
 ghost use Rattle.class_relation.specs.Tables.{IsWhole};
 ghost use Rattle.table_check.specs.declared.boards.BoardSpec.{BoardSpec};
-ghost use Rattle.table_check.specs.Setup.{access_count};
+ghost use Rattle.setup.specs.Setup.{access_count};
 ghost use Rattle.table_text.specs.Writing.{table_room};
 ghost use Rattle.setup_text.specs.Spelling.{word_row, board_row, access_row, shape_words, choose_words, tables_rows, board_rows, setup_rows, AccessFits, ChooseFits};
 ghost use Rattle.setup_text.specs.Correct.{IsSetup};

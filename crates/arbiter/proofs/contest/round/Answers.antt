@@ -1,4 +1,4 @@
-use Rattle.settling.specs.Settling.{driven}
+use Rattle.bus_model.specs.Settling.{driven}
 use Rattle.std.proofs.Common.{arith}
 use Rattle.arbiter.proofs.Wired.{round_more}
 use Rattle.arbiter.proofs.contest.round.Goals as goal

@@ -1,5 +1,5 @@
 use Rattle.std.proofs.Common.{◌≡◌, ◌+◌, map, take}
-use Rattle.settling.specs.Settling.{wired_lines, driven}
+use Rattle.bus_model.specs.Settling.{wired_lines, driven}
 use Rattle.arbiter.proofs.contest.round.Given as goal
 
 abbrev pub invariant-loop-number : goal.invariant-loop-number

@@ -1,5 +1,5 @@
 use Rattle.std.proofs.Common.{◌≡◌, ◌∙◌, ◌+◌, ◌*◌, suc, ap, arith, length, sym}
-use Rattle.settling.specs.Settling.{lines_after}
+use Rattle.bus_model.specs.Settling.{lines_after}
 use Rattle.arbiter.proofs.Settles.{Found, first_is, next_is, differ_more, few_rounds, found_settles, found_rounds, found_lines, found_highest}
 use Rattle.arbiter.proofs.contest.settle.Goals as goal
 

@@ -1,7 +1,7 @@
 use Rattle.std.proofs.Common.{take, drop}
 use Rattle.std.specs.List.{AllByRecursion}
 use Rattle.trace_text.specs.Ranges.{InRange}
-use Rattle.run_lines.specs.RunLines.{IsTyped}
+use Rattle.run_text.specs.RunLines.{IsTyped}
 use Rattle.run_text.specs.RunText.{events_text}
 use Rattle.run_text.specs.Printing.{Pages, IsReady}
 use Rattle.run_text.proofs.printing.print_events.Given as goal

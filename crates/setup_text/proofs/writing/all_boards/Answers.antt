@@ -9,7 +9,7 @@ use Rattle.class_relation.specs.Tables.{Table}
 use Rattle.table_check.specs.declared.boards.BoardSpec.{BoardSpec}
 use Rattle.table_check.specs.declared.boards.Shape.TheVariants.{Plain}
 use Rattle.table_check.specs.declared.boards.Choose.TheVariants.{First}
-use Rattle.table_check.specs.Setup.{Setup, WellFormed}
+use Rattle.setup.specs.Setup.{Setup, WellFormed}
 use Rattle.setup_text.specs.Spelling.{board_rows, AccessFits, ChooseFits}
 use Rattle.setup_text.specs.Writing.{boards_from}
 use Rattle.setup_text.proofs.Writes.{board_more, all_more}

@@ -4,7 +4,7 @@ use Rattle.std.specs.List.{flat_map, AllByRecursion}
 use Rattle.fb_text.specs.Written.{lines_bytes}
 use Rattle.bus_signals.specs.declared.Access.{Access}
 use Rattle.table_check.specs.declared.boards.BoardSpec.{BoardSpec}
-use Rattle.table_check.specs.Setup.{access_count}
+use Rattle.setup.specs.Setup.{access_count}
 use Rattle.setup_text.specs.Spelling.{board_rows, AccessFits, ChooseFits}
 use Rattle.setup_text.specs.Writing.{boards_from}
 use Rattle.setup_text.proofs.writing.all_boards.Given as goal

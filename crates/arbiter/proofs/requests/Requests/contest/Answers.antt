@@ -1,5 +1,5 @@
 use Rattle.std.proofs.Common.{◌≡◌, ◌+◌, ◌-◌, take, sym, ap, ◌∙◌, subst, arith}
-use Rattle.settling.specs.Settling.{highest}
+use Rattle.bus_model.specs.Settling.{highest}
 use Rattle.arbiter.specs.Contests.{IsContest}
 use Rattle.arbiter.specs.Raised.{raised_numbers, winner_from}
 use Rattle.arbiter.proofs.Requesting.{raised_contest, some_compete, highest_wins, won}

@@ -1,5 +1,5 @@
 use Rattle.std.proofs.Common.{ap, ◌++◌}
-use Rattle.trace_lines.specs.Reader.{found_in}
+use Rattle.replayer.specs.Reader.{found_in}
 use Rattle.replayer.specs.Standing.{Replaying, place_of}
 use Rattle.replayer.proofs.Reading.{line_read, line_found}
 use Rattle.replayer.proofs.pieces.Replay.close_line.Goals as goal

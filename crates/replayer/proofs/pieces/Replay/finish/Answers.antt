@@ -1,8 +1,8 @@
 use Rattle.std.proofs.Common.{sym, ap, ◌∙◌, subst}
 use Rattle.backplane.specs.Machine.{Machine, opened}
-use Rattle.trace_lines.specs.Lines.{trace_of}
-use Rattle.trace_lines.specs.Replaying.{Place, ending}
-use Rattle.trace_lines.proofs.Ended.{replayed_left}
+use Rattle.replayer.specs.Lines.{trace_of}
+use Rattle.replayer.specs.Traces.{Place, ending}
+use Rattle.replayer.proofs.Ended.{replayed_left}
 use Rattle.replayer.specs.Replaying.{step, close}
 use Rattle.replayer.specs.Runs.{Accepts, IsOnlyAnswer}
 use Rattle.replayer.proofs.Saying.{says_of, accepts}

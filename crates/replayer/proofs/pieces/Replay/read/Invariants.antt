@@ -1,5 +1,5 @@
 use Rattle.std.proofs.Common.{◌≡◌, length}
-use Rattle.trace_lines.specs.Replaying.{fed}
+use Rattle.replayer.specs.Traces.{fed}
 use Rattle.replayer.specs.Replaying.{step}
 use Rattle.replayer.proofs.pieces.Replay.read.Given as goal
 
