@@ -16,11 +16,11 @@ mod lines;
 mod page;
 mod printing;
 mod run;
-mod spelled;
+mod spelling;
 #[cfg(test)]
 mod tests;
 
 pub use laws::run_texts_fit;
 pub use lines::{write_copy, write_memory, write_reply};
 pub use run::{print_ending, print_run};
-pub use spelled::{is_typed, runs_are_spelled, steps_are_spelled};
+pub use spelling::{is_typed, runs_are_spelled, steps_are_spelled};

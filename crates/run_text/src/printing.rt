@@ -15,7 +15,7 @@ use fb_edge::{PutFailed, Sink};
 use fb_text::Text;
 use flat_memory::Entry;
 use journal::Event;
-use crate::spelled::is_typed;
+use crate::spelling::is_typed;
 use trace_text::write_event;
 
 /// Prints a line and empties it.

@@ -17,7 +17,7 @@ use backplane::Machine;
 use bus_signals::{BoardNo, LineNo};
 use fb_edge::{PutFailed, Sink};
 use fb_text::Text;
-use crate::spelled::runs_are_spelled;
+use crate::spelling::runs_are_spelled;
 
 /// Prints the replies to the reads of a board.
 fn print_board_replies<K: Sink>(
