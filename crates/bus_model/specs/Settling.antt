@@ -14,7 +14,9 @@ wired_lines (n ∷ rest) = bit_or n (wired_lines rest)
 abbrev pub has_bit : ℕ → ℕ → Bool
 has_bit number k = number / 2 ^ k % 2 == 1
 
--- What a board drives against these lines. Its first disagreement is the highest bit below k that is on in the lines and off in its number. It drives its number with each bit below that one cleared, or its whole number where there is none.
+-- What a board drives against these lines. Its first disagreement is the highest bit below k that
+-- is on in the lines and off in its number. It drives its number with each bit below that one
+-- cleared, or its whole number where there is none.
 unfoldable pub driven_below : ℕ → ℕ → ℕ → ℕ
 driven_below zero lines number = number
 driven_below (suc k) lines number =
@@ -34,7 +36,8 @@ unfoldable pub lines_after : List ℕ → ℕ → ℕ
 lines_after numbers zero = wired_lines numbers
 lines_after numbers (suc k) = next_lines numbers (lines_after numbers k)
 
--- The least number of rounds, from this one on, after which a further round changes nothing, looked for this many times.
+-- The least number of rounds, from this one on, after which a further round changes nothing, looked
+-- for this many times.
 unfoldable pub rounds_from : ℕ → ℕ → List ℕ → ℕ
 rounds_from zero k numbers = k
 rounds_from (suc tries) k numbers =
@@ -49,7 +52,8 @@ settled_rounds numbers = rounds_from number_bits 0 numbers
 abbrev pub settled_lines : List ℕ → ℕ
 settled_lines numbers = lines_after numbers (settled_rounds numbers)
 
--- The lines settle in so many rounds: this is the least number of rounds after which a further one changes nothing.
+-- The lines settle in so many rounds: this is the least number of rounds after which a further one
+-- changes nothing.
 pub record SettlesIn (numbers : List ℕ) (lines rounds : ℕ) : Type 0 where
   pub shown : lines ≡ lines_after numbers rounds
   pub stays : lines_after numbers (suc rounds) ≡ lines_after numbers rounds

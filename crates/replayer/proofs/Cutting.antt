@@ -25,11 +25,14 @@ some_pieces : (text : List ℕ) → 0 < length (slice_split is_line_feed text)
 some_pieces [] = omega arith
 some_pieces (b ∷ text) = go (is_line_feed b)
   where
-    go : (is : Bool) → 0 < length (if is then [] ∷ slice_split is_line_feed text else onto_first b (slice_split is_line_feed text))
+    go :
+        (is : Bool)
+        → 0 < length (if is then [] ∷ slice_split is_line_feed text else onto_first b (slice_split is_line_feed text))
     go true = omega arith
     go false = some_onto b (slice_split is_line_feed text)
 
-closed_pieces : (p : List ℕ) (ps : List (List ℕ)) → 0 < length ps → lines_of_pieces (p ∷ ps) ≡ closed_line p ∷ lines_of_pieces ps
+closed_pieces :
+    (p : List ℕ) (ps : List (List ℕ)) → 0 < length ps → lines_of_pieces (p ∷ ps) ≡ closed_line p ∷ lines_of_pieces ps
 closed_pieces p [] some = absurd (omega arith)
 closed_pieces p (q ∷ qs) some = refl
 
@@ -54,7 +57,8 @@ pub record IsLine (line : Line) : Type 0 where
   pub lacks : LacksFeed line.bytes
   pub some : line.closed ≡ false → 0 < length line.bytes
 
-are_put : (b : ℕ) (ls : List Line) → is_line_feed b ≡ false → AllByRecursion IsLine ls → AllByRecursion IsLine (put b ls)
+are_put :
+    (b : ℕ) (ls : List Line) → is_line_feed b ≡ false → AllByRecursion IsLine ls → AllByRecursion IsLine (put b ls)
 are_put b [] is all = (record { lacks = (is, tt); some = λ lacking. omega arith }, tt)
 are_put b (l ∷ ls) is all = (record { lacks = (is, all.0.lacks); some = λ lacking. omega arith }, all.1)
 
@@ -62,7 +66,9 @@ pub are_lines : (text : List ℕ) → AllByRecursion IsLine (lines_of text)
 are_lines [] = rw lines_none tt
 are_lines (b ∷ text) = go (is_line_feed b) refl (are_lines text)
   where
-    go : (is : Bool) → is_line_feed b ≡ is → AllByRecursion IsLine (lines_of text) → AllByRecursion IsLine (lines_of (b ∷ text))
+    go :
+        (is : Bool) → is_line_feed b ≡ is → AllByRecursion IsLine (lines_of text)
+        → AllByRecursion IsLine (lines_of (b ∷ text))
     go true is more = rw (lines_feed b text is) (record { lacks = tt; some = λ lacking. absurd cc }, more)
     go false is more = rw (lines_byte b text is) (are_put b (lines_of text) is more)
 
@@ -88,16 +94,21 @@ put_prefixed b front (l ∷ ls) = refl
 pub lines_prefixed : (front text : List ℕ) → LacksFeed front → lines_of (front ++ text) ≡ prefixed front (lines_of text)
 lines_prefixed [] text lacks = sym (prefixed_none (lines_of text))
 lines_prefixed (b ∷ front) text lacks =
-    lines_byte b (front ++ text) lacks.0 ∙ (ap (put b) (lines_prefixed front text lacks.1) ∙ put_prefixed b front (lines_of text))
+    lines_byte b (front ++ text) lacks.0
+    ∙ (ap (put b) (lines_prefixed front text lacks.1) ∙ put_prefixed b front (lines_of text))
 
 -- Bytes and a line feed are the first line of what they begin.
-pub lines_closed : (front text : List ℕ) → LacksFeed front → lines_of (front ++ 10 ∷ text) ≡ closed_line front ∷ lines_of text
+pub lines_closed :
+    (front text : List ℕ) → LacksFeed front → lines_of (front ++ 10 ∷ text) ≡ closed_line front ∷ lines_of text
 lines_closed front text lacks =
-    lines_prefixed front (10 ∷ text) lacks ∙ (ap (prefixed front) (lines_feed 10 text refl) ∙ ap (λ (bytes : List ℕ). closed_line bytes ∷ lines_of text) (append-nil front))
+    lines_prefixed front (10 ∷ text) lacks
+    ∙ (ap (prefixed front) (lines_feed 10 text refl)
+    ∙ ap (λ (bytes : List ℕ). closed_line bytes ∷ lines_of text) (append-nil front))
 
 -- Bytes without a line feed are one line, where there are any.
 pub lines_open : (front : List ℕ) → LacksFeed front → lines_of front ≡ last_line front
-lines_open front lacks = ap lines_of (sym (append-nil front)) ∙ (lines_prefixed front [] lacks ∙ ap (prefixed front) lines_none)
+lines_open front lacks =
+    ap lines_of (sym (append-nil front)) ∙ (lines_prefixed front [] lacks ∙ ap (prefixed front) lines_none)
 
 -- ---- a text and what follows it
 
@@ -106,12 +117,16 @@ abbrev pub joined : List Line → List ℕ → List Line
 joined [] piece = lines_of piece
 joined (l ∷ ls) piece = if l.closed then l ∷ joined ls piece else lines_of (l.bytes ++ piece)
 
-put_joined : (b : ℕ) (ls : List Line) (piece : List ℕ) → is_line_feed b ≡ false → put b (joined ls piece) ≡ joined (put b ls) piece
+put_joined :
+    (b : ℕ) (ls : List Line) (piece : List ℕ) → is_line_feed b ≡ false
+    → put b (joined ls piece) ≡ joined (put b ls) piece
 put_joined b [] piece is = sym (lines_byte b piece is)
 put_joined b (l ∷ ls) piece is = go l.closed
   where
     go : (closed : Bool) → put b (if closed then l ∷ joined ls piece else lines_of (l.bytes ++ piece))
-        ≡ (if closed then record { bytes = b ∷ l.bytes; closed = l.closed } ∷ joined ls piece else lines_of (b ∷ (l.bytes ++ piece)))
+        ≡ (if closed
+        then record { bytes = b ∷ l.bytes; closed = l.closed } ∷ joined ls piece
+        else lines_of (b ∷ (l.bytes ++ piece)))
     go true = refl
     go false = sym (lines_byte b (l.bytes ++ piece) is)
 
@@ -119,8 +134,15 @@ pub lines_joined : (text piece : List ℕ) → lines_of (text ++ piece) ≡ join
 lines_joined [] piece = ap (λ (ls : List Line). joined ls piece) (sym lines_none)
 lines_joined (b ∷ text) piece = go (is_line_feed b) refl (lines_joined text piece)
   where
-    go : (is : Bool) → is_line_feed b ≡ is → lines_of (text ++ piece) ≡ joined (lines_of text) piece → lines_of (b ∷ (text ++ piece)) ≡ joined (lines_of (b ∷ text)) piece
+    go :
+        (is : Bool) → is_line_feed b ≡ is → lines_of (text ++ piece) ≡ joined (lines_of text) piece
+        → lines_of (b ∷ (text ++ piece)) ≡ joined (lines_of (b ∷ text)) piece
     go true is more =
-        lines_feed b (text ++ piece) is ∙ (ap (λ (ls : List Line). closed_line [] ∷ ls) more ∙ ap (λ (ls : List Line). joined ls piece) (sym (lines_feed b text is)))
+        lines_feed b (text ++ piece) is
+        ∙ (ap (λ (ls : List Line). closed_line [] ∷ ls) more
+        ∙ ap (λ (ls : List Line). joined ls piece) (sym (lines_feed b text is)))
     go false is more =
-        lines_byte b (text ++ piece) is ∙ (ap (put b) more ∙ (put_joined b (lines_of text) piece is ∙ ap (λ (ls : List Line). joined ls piece) (sym (lines_byte b text is))))
+        lines_byte b (text ++ piece) is
+        ∙ (ap (put b) more
+        ∙ (put_joined b (lines_of text) piece is
+        ∙ ap (λ (ls : List Line). joined ls piece) (sym (lines_byte b text is))))

@@ -18,7 +18,9 @@ pub lacks_before : (text : List ℕ) → LacksFeed (take (place text) text)
 lacks_before [] = tt
 lacks_before (b ∷ text) = go (is_line_feed b) refl (lacks_before text)
   where
-    go : (is : Bool) → is_line_feed b ≡ is → LacksFeed (take (place text) text) → LacksFeed (take (place (b ∷ text)) (b ∷ text))
+    go :
+        (is : Bool) → is_line_feed b ≡ is → LacksFeed (take (place text) text)
+        → LacksFeed (take (place (b ∷ text)) (b ∷ text))
     go true is more = rw is tt
     go false is more =
         let both : LacksFeed (b ∷ take (place text) text) = (is, more) in

@@ -35,14 +35,19 @@ lacks_before (b ∷ text) (suc k) none = (first_is_none b text k none, lacks_bef
 shift_drop : (n b : ℕ) (text : List ℕ) → drop (suc n + 1) (b ∷ text) ≡ drop (n + 1) text
 shift_drop n b text = let e : suc n + 1 ≡ suc (n + 1) = omega arith in ap (λ (k : ℕ). drop k (b ∷ text)) e
 
-parts_at : (text : List ℕ) (k : ℕ) → k < length text → Passes is_line_feed text k → text ≡ take k text ++ 10 ∷ drop (k + 1) text
+parts_at :
+    (text : List ℕ) (k : ℕ) → k < length text → Passes is_line_feed text k
+    → text ≡ take k text ++ 10 ∷ drop (k + 1) text
 parts_at [] k there found = absurd (omega (arith, there))
 parts_at (b ∷ text) zero there found = let d = Decides-eqb b 10 in ap (λ (x : ℕ). x ∷ text) (d.0 found)
 parts_at (b ∷ text) (suc k) there found =
-    ap (λ (x : List ℕ). b ∷ x) (parts_at text k (omega (arith, there)) found ∙ ap (λ (x : List ℕ). take k text ++ 10 ∷ x) (sym (shift_drop k b text)))
+    ap (λ (x : List ℕ). b ∷ x)
+    (parts_at text k (omega (arith, there)) found
+    ∙ ap (λ (x : List ℕ). take k text ++ 10 ∷ x) (sym (shift_drop k b text)))
 
 -- A text is cut at its first line feed.
-pub cut_there : (text : List ℕ) (k : ℕ) (line rest : List ℕ) → NoneUpTo text k → k < length text → Passes is_line_feed text k
+pub cut_there :
+    (text : List ℕ) (k : ℕ) (line rest : List ℕ) → NoneUpTo text k → k < length text → Passes is_line_feed text k
     → line ≡ take k text → rest ≡ drop (k + 1) text → IsCut text line rest
 cut_there text k line rest none there found front back = record {
   lacks = subst LacksFeed (sym front) (lacks_before text k none);

@@ -31,24 +31,35 @@ long_no_event bytes long = go (event_at (pieces 32 bytes)) refl
     go : (o : Option Event) → event_at (pieces 32 bytes) ≡ o → o ≡ None
     go None is = refl
     go (Some e) is =
-        let s = line_is bytes e is in let k = line_length e s.0 in let l = ap (λ (x : List ℕ). length x) s.1 in let m = length-append (text_of_event e) (10 ∷ []) in absurd (omega arith)
+        let s = line_is bytes e is in
+        let k = line_length e s.0 in
+        let l = ap (λ (x : List ℕ). length x) s.1 in
+        let m = length-append (text_of_event e) (10 ∷ []) in absurd (omega arith)
 
 pub long_misspelled : (bytes : List ℕ) → longest < length bytes → found_in bytes ≡ found.Misspelled
 long_misspelled bytes long = rw (long_no_end bytes long, long_no_event bytes long) refl
 
 -- Too many bytes within a line are a fault at once.
-pub long_open : {M : Type 0} (m : M) (number : ℕ) (bytes : List ℕ) → longest < length bytes → at_open m number bytes ≡ refused (Spelling number)
+pub long_open :
+    {M : Type 0} (m : M) (number : ℕ) (bytes : List ℕ) → longest < length bytes
+    → at_open m number bytes ≡ refused (Spelling number)
 long_open m number bytes long = go (nat_le (length bytes) longest) refl
   where
-    go : (b : Bool) → nat_le (length bytes) longest ≡ b → (if b then reading m number bytes else refused (Spelling number)) ≡ refused (Spelling number)
+    go :
+        (b : Bool) → nat_le (length bytes) longest ≡ b
+        → (if b then reading m number bytes else refused (Spelling number)) ≡ refused (Spelling number)
     go false is = refl
     go true is = let l = leb-true (length bytes) longest is in absurd (omega arith)
 
-pub long_closed : {M : Type 0} (step : M → Event → Option M) (m : M) (number : ℕ) (bytes : List ℕ) (go : M → Place M) → longest < length bytes → at_closed step m number bytes go ≡ refused (Spelling number)
+pub long_closed :
+    {M : Type 0} (step : M → Event → Option M) (m : M) (number : ℕ) (bytes : List ℕ) (go : M → Place M)
+    → longest < length bytes → at_closed step m number bytes go ≡ refused (Spelling number)
 long_closed step m number bytes go long = rw (long_no_end bytes long, long_no_event bytes long) refl
 
 -- A front that is too long is a fault whatever lines it stands before.
-pub long_front : {M : Type 0} (step : M → Event → Option M) (m : M) (number : ℕ) (front : List ℕ) (ls : List Line) → longest < length front → follow step m number (prefixed front ls) ≡ refused (Spelling number)
+pub long_front :
+    {M : Type 0} (step : M → Event → Option M) (m : M) (number : ℕ) (front : List ℕ) (ls : List Line)
+    → longest < length front → follow step m number (prefixed front ls) ≡ refused (Spelling number)
 long_front step m number [] [] long = absurd (omega arith)
 long_front step m number (b ∷ bs) [] long = long_open m number (b ∷ bs) long
 long_front step m number front (l ∷ ls) long = go l.closed
@@ -56,12 +67,18 @@ long_front step m number front (l ∷ ls) long = go l.closed
     longer : longest < length (front ++ l.bytes)
     longer = let k = length-append front l.bytes in omega arith
 
-    go : (closed : Bool) → (if closed then at_closed step m number (front ++ l.bytes) (λ next. follow step next (number + 1) ls) else at_open m number (front ++ l.bytes)) ≡ refused (Spelling number)
+    go :
+        (closed : Bool)
+        → (if closed
+        then at_closed step m number (front ++ l.bytes) (λ next. follow step next (number + 1) ls)
+        else at_open m number (front ++ l.bytes)) ≡ refused (Spelling number)
     go true = long_closed step m number (front ++ l.bytes) (λ next. follow step next (number + 1) ls) longer
     go false = long_open m number (front ++ l.bytes) longer
 
 -- A line that does not fit is misspelled.
-pub unfit_misspelled : (kept front bytes : List ℕ) (fits : Bool) → fits ≡ nat_le (length (kept ++ bytes)) longest → kept ≡ front → fits ≡ false → found.Misspelled ≡ found_in (front ++ bytes)
+pub unfit_misspelled :
+    (kept front bytes : List ℕ) (fits : Bool) → fits ≡ nat_le (length (kept ++ bytes)) longest → kept ≡ front
+    → fits ≡ false → found.Misspelled ≡ found_in (front ++ bytes)
 unfit_misspelled kept front bytes true is same unfit = absurd cc
 unfit_misspelled kept front bytes false is same unfit =
     let long : longest < length (kept ++ bytes) = leb-false (length (kept ++ bytes)) longest (sym is) in

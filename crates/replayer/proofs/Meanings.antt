@@ -26,8 +26,12 @@ none_spelled bytes none = go (event_at (pieces 32 bytes)) refl
     go None is = refl
     go (Some e) is = let s = line_is bytes e is in absurd (none e s.0 s.1)
 
-pub means_event : (bytes : List ℕ) (e : Event) → is_end_word bytes ≡ false → InRange e → bytes ≡ text_of_event e → found.Event e ≡ found_in bytes
+pub means_event :
+    (bytes : List ℕ) (e : Event) → is_end_word bytes ≡ false → InRange e → bytes ≡ text_of_event e
+    → found.Event e ≡ found_in bytes
 means_event bytes e no_end in_range is = rw (no_end, event_spelled bytes e in_range is) refl
 
-pub means_none : (bytes : List ℕ) → is_end_word bytes ≡ false → ((e : Event) → InRange e → bytes ≢ text_of_event e) → found.Misspelled ≡ found_in bytes
+pub means_none :
+    (bytes : List ℕ) → is_end_word bytes ≡ false → ((e : Event) → InRange e → bytes ≢ text_of_event e)
+    → found.Misspelled ≡ found_in bytes
 means_none bytes no_end none = rw (no_end, none_spelled bytes none) refl

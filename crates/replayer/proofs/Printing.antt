@@ -31,10 +31,13 @@ event_no_end event in_range = go (is_end_word (text_of_event event)) refl
     go false is = refl
     go true is =
         let some = event_spelled (text_of_event event) event in_range refl in
-        let none : event_in (text_of_event event) ≡ None = ap event_in (is_word (text_of_event event) (codes "end") is) ∙ end_spells_none in
+        let none : event_in (text_of_event event) ≡ None =
+        ap event_in (is_word (text_of_event event) (codes "end") is) ∙ end_spells_none in
         let both : ◌≡◌ {A = Option Event} (Some event) None = sym some ∙ none in absurd cc
 
-before_text : (bytes : List ℕ) (ls : List Line) → is_end_word bytes ≡ false → before_end (closed_line bytes ∷ ls) ≡ closed_line bytes ∷ before_end ls
+before_text :
+    (bytes : List ℕ) (ls : List Line) → is_end_word bytes ≡ false
+    → before_end (closed_line bytes ∷ ls) ≡ closed_line bytes ∷ before_end ls
 before_text bytes ls no_end = rw no_end refl
 
 cut_line : (bytes more rest : List ℕ) → ((bytes ++ 10 ∷ []) ++ more) ++ rest ≡ bytes ++ 10 ∷ (more ++ rest)

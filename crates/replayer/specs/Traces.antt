@@ -1,4 +1,5 @@
--- What a trace comes to on something that takes events: of each event, `step` says what it leads to, where it is a step.
+-- What a trace comes to on something that takes events: of each event, `step` says what it leads
+-- to, where it is a step.
 use Rattle.std.specs.Prelude.{ℕ, ◌+◌, nat_le, List, [], ◌∷◌, ◌++◌, length, Option, Some, None, Result, Err, if◌then◌else◌}
 use Rattle.journal.specs.declared.event.Event.{Event}
 use Rattle.replayer.specs.declared.fault.ReplayFault.{ReplayFault}
@@ -11,20 +12,28 @@ by_step refuse go number None = refuse (NotARun number)
 by_step refuse go number (Some next) = go next
 
 -- An event that is a step leads on. A line that no event spells is a fault.
-abbrev pub by_event : {M A : Type 0} → (M → Event → Option M) → M → (ReplayFault → A) → (M → A) → ℕ → Option Event → A
+abbrev pub by_event :
+    {M A : Type 0} → (M → Event → Option M) → M → (ReplayFault → A) → (M → A) → ℕ → Option Event → A
 by_event step m refuse go number None = refuse (Spelling number)
 by_event step m refuse go number (Some event) = by_step refuse go number (step m event)
 
--- What these lines come to, of which the first has this number: where all are steps, what `close` says of the end, and else the fault of the first line that is none.
-abbrev pub outcome : {M : Type 0} → (M → Event → Option M) → (M → Result M ReplayFault) → M → ℕ → List Line → Result M ReplayFault
+-- What these lines come to, of which the first has this number: where all are steps, what `close`
+-- says of the end, and else the fault of the first line that is none.
+abbrev pub outcome :
+    {M : Type 0} → (M → Event → Option M) → (M → Result M ReplayFault) → M → ℕ → List Line
+    → Result M ReplayFault
 outcome step close m number [] = close m
-outcome step close m number (line ∷ lines) = by_event step m Err (λ next. outcome step close next (number + 1) lines) number (event_of line)
+outcome step close m number (line ∷ lines) =
+    by_event step m Err (λ next. outcome step close next (number + 1) lines) number (event_of line)
 
 -- What a trace comes to.
-abbrev pub replayed : {M : Type 0} → (M → Event → Option M) → (M → Result M ReplayFault) → M → List ℕ → Result M ReplayFault
+abbrev pub replayed :
+    {M : Type 0} → (M → Event → Option M) → (M → Result M ReplayFault) → M → List ℕ
+    → Result M ReplayFault
 replayed step close m text = outcome step close m 1 (trace_of text)
 
--- Where a text leaves its reader: reading a line of this number with these bytes so far, after the line `end`, or at a fault.
+-- Where a text leaves its reader: reading a line of this number with these bytes so far, after the
+-- line `end`, or at a fault.
 pub data Place (M : Type 0) : Type 0 where
   reading : (m : M) (number : ℕ) (unfinished : List ℕ) → Place M
   ended : (m : M) → Place M
@@ -35,18 +44,23 @@ abbrev pub longest : ℕ
 longest = 256
 
 -- After a line with its line feed.
-abbrev pub at_closed : {M : Type 0} → (M → Event → Option M) → M → ℕ → List ℕ → (M → Place M) → Place M
-at_closed step m number bytes go = if is_end_word bytes then ended m else by_event step m refused go number (event_in bytes)
+abbrev pub at_closed :
+    {M : Type 0} → (M → Event → Option M) → M → ℕ → List ℕ → (M → Place M) → Place M
+at_closed step m number bytes go =
+    if is_end_word bytes then ended m else by_event step m refused go number (event_in bytes)
 
 -- Within a line: too many bytes are a fault at once.
 abbrev pub at_open : {M : Type 0} → M → ℕ → List ℕ → Place M
-at_open m number bytes = if nat_le (length bytes) longest then reading m number bytes else refused (Spelling number)
+at_open m number bytes =
+    if nat_le (length bytes) longest then reading m number bytes else refused (Spelling number)
 
 -- Where these lines leave their reader, of which the first has this number.
 abbrev pub follow : {M : Type 0} → (M → Event → Option M) → M → ℕ → List Line → Place M
 follow step m number [] = reading m number []
 follow step m number (line ∷ lines) =
-    if line.closed then at_closed step m number line.bytes (λ next. follow step next (number + 1) lines) else at_open m number line.bytes
+    if line.closed
+    then at_closed step m number line.bytes (λ next. follow step next (number + 1) lines)
+    else at_open m number line.bytes
 
 -- Where a text leaves its reader.
 abbrev pub left_by : {M : Type 0} → (M → Event → Option M) → M → List ℕ → Place M

@@ -1,7 +1,7 @@
 //! Replaying a trace on a machine.
 //!
-//! A trace is accepted exactly where its lines are those of a complete run of the machine's setup. It may come in pieces,
-//! cut anywhere. No call here takes memory.
+//! A trace is accepted exactly where its lines are those of a complete run of the machine's setup.
+//! It may come in pieces, cut anywhere. No call here takes memory.
 #![tactic(auto)]
 
 mod fault;

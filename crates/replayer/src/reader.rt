@@ -38,7 +38,8 @@ impl Model for Reader {
 
 /// The first line and what stands after its line feed, where there is a line feed.
 pub fn first_line(text: &[u8]) -> Option<(&[u8], &[u8])>
-    ensures { MatchOption result (LacksFeed text.now) (λ parts. IsCut text.now parts.0.now parts.1.now) }
+    ensures { MatchOption result (LacksFeed text.now)
+        (λ parts. IsCut text.now parts.0.now parts.1.now) }
 {
     let Some(end) = memchr(b'\n', text) else {
         return None;
@@ -121,7 +122,8 @@ impl Reader {
         line
     }
 
-    /// The line goes on with these bytes. It answers false where there are too many, and then nothing has changed.
+    /// The line goes on with these bytes. It answers false where there are too many, and then
+    /// nothing has changed.
     pub fn keep(&mut self, bytes: &[u8]) -> bool
         requires { LacksFeed bytes.now }
         ensures fits { result ≡ nat_le (length (self.old ++ bytes.now)) longest }

@@ -1,4 +1,5 @@
--- The lines of a grant: the boards that compete are a contest, which settles to the highest number in at most seven rounds.
+-- The lines of a grant: the boards that compete are a contest, which settles to the highest number in at most seven
+-- rounds.
 use Rattle.std.proofs.Common.{◌≡◌, ◌≢◌, ℕ, zero, suc, ◌+◌, ◌<◌, ◌≤◌, Bool, true, false, cond, List, [], ◌∷◌, length, map, refl, sym, ap, ◌∙◌, subst, arith, inl, inr, ◌⊎◌, unwrap_or, option_map}
 use Rattle.std.specs.Prelude.{All, filter, ◌==◌}
 use Rattle.std.specs.List.{AllByRecursion}
@@ -25,7 +26,9 @@ length-filter : {X : Type 0} (p : X → Bool) (xs : List X) → length (filter p
 length-filter p [] = omega arith
 length-filter p (x ∷ xs) = go (p x) (length-filter p xs)
   where
-    go : (b : Bool) → length (filter p xs) ≤ length xs → length (cond b (x ∷ filter p xs) (filter p xs)) ≤ suc (length xs)
+    go :
+        (b : Bool) → length (filter p xs) ≤ length xs
+        → length (cond b (x ∷ filter p xs) (filter p xs)) ≤ suc (length xs)
     go true h = omega (arith, h)
     go false h = omega (arith, h)
 
@@ -42,24 +45,37 @@ place-in setup board there =
     let r = in-places setup.boards 1 board there in
     record { low = r.0; high = omega (arith, r.1) }
 
-number_is : (setup : Setup) (board : ℕ) → WellFormed setup → IsPlace (length setup.boards) board → IsNumber (number_of setup board)
+number_is :
+    (setup : Setup) (board : ℕ) → WellFormed setup → IsPlace (length setup.boards) board
+    → IsNumber (number_of setup board)
 number_is setup board well there =
     let r = spec_there setup board well there in
-    let same : number_of setup board ≡ r.0.number = ap (λ o. unwrap_or (option_map (λ (spec : BoardSpec). spec.number) o) 0) r.1 in
+    let same : number_of setup board ≡ r.0.number =
+    ap (λ o. unwrap_or (option_map (λ (spec : BoardSpec). spec.number) o) 0) r.1 in
     subst IsNumber (sym same) (r.2.number_low, r.2.number_high)
 
-numbers_are : (setup : Setup) (boards : List ℕ) → WellFormed setup → AllByRecursion (IsPlace (length setup.boards)) boards → AllByRecursion IsNumber (map (λ board. number_of setup board) boards)
+numbers_are :
+    (setup : Setup) (boards : List ℕ) → WellFormed setup → AllByRecursion (IsPlace (length setup.boards)) boards
+    → AllByRecursion IsNumber (map (λ board. number_of setup board) boards)
 numbers_are setup [] well h = tt
 numbers_are setup (b ∷ boards) well h = (number_is setup b well h.0, numbers_are setup boards well h.1)
 
 -- The boards that compete are a contest, if there is one.
-pub contest : (setup : Setup) (boards : List Progress) (winner : ℕ) → WellFormed setup → IsPlace (length setup.boards) winner → is_raised boards winner ≡ true → IsContest (competing_numbers setup boards)
+pub contest :
+    (setup : Setup) (boards : List Progress) (winner : ℕ) → WellFormed setup → IsPlace (length setup.boards) winner
+    → is_raised boards winner ≡ true → IsContest (competing_numbers setup boards)
 contest setup boards winner well there raised =
-    let here : In winner (competing setup boards) = filter-in (λ board. is_raised boards board) (board_places setup) winner (places-in setup.boards 1 winner there.low (omega (arith, there.high))) raised in
-    let each : AllByRecursion (IsPlace (length setup.boards)) (competing setup boards) = all-in (IsPlace (length setup.boards)) (competing setup boards) (λ b m. place-in setup b (in-filter (λ board. is_raised boards board) (board_places setup) b m).0) in
-    let few : length (competing setup boards) ≤ length (board_places setup) = length-filter (λ board. is_raised boards board) (board_places setup) in
+    let here : In winner (competing setup boards) =
+    filter-in (λ board. is_raised boards board) (board_places setup) winner
+    (places-in setup.boards 1 winner there.low (omega (arith, there.high))) raised in
+    let each : AllByRecursion (IsPlace (length setup.boards)) (competing setup boards) =
+    all-in (IsPlace (length setup.boards)) (competing setup boards)
+    (λ b m. place-in setup b (in-filter (λ board. is_raised boards board) (board_places setup) b m).0) in
+    let few : length (competing setup boards) ≤ length (board_places setup) =
+    length-filter (λ board. is_raised boards board) (board_places setup) in
     let places : length (board_places setup) ≡ length setup.boards = length-places 1 setup.boards in
-    let same : length (competing_numbers setup boards) ≡ length (competing setup boards) = length-map (λ board. number_of setup board) (competing setup boards) in
+    let same : length (competing_numbers setup boards) ≡ length (competing setup boards) =
+    length-map (λ board. number_of setup board) (competing setup boards) in
     let one : 1 ≤ length (competing setup boards) = some_length (competing setup boards) winner here in
     record {
       some = omega (arith, one, same);
@@ -72,18 +88,38 @@ contest setup boards winner well there raised =
     some_length (y ∷ ys) x m = omega arith
 
 -- A first round from this one on that changes nothing.
-search : (numbers : List ℕ) → IsContest numbers → (tries k : ℕ) → k + tries ≡ 8 → ((i : ℕ) → i < k → lines_after numbers (suc i) ≢ lines_after numbers i) → k ≤ 7 → (r : ℕ) × Found numbers (lines_after numbers r) r
+search :
+    (numbers : List ℕ) → IsContest numbers → (tries k : ℕ) → k + tries ≡ 8
+    → ((i : ℕ) → i < k → lines_after numbers (suc i) ≢ lines_after numbers i) → k ≤ 7
+    → (r : ℕ) × Found numbers (lines_after numbers r) r
 search numbers c zero k e before within = absurd (omega (arith, e, within))
 search numbers c (suc tries) k e before within =
     go (lines_after numbers (suc k) == lines_after numbers k) refl
-    (λ changed. search numbers c tries (suc k) (omega (arith, e)) (λ i less. at i (cases_lt i k) less changed) (omega (arith, few_rounds numbers c k within changed)))
+    (λ changed.
+    search numbers c tries (suc k) (omega (arith, e)) (λ i less. at i (cases_lt i k) less changed)
+    (omega (arith, few_rounds numbers c k within changed)))
   where
-    at : (i : ℕ) → (i < k) ⊎ (k ≤ i) → i < suc k → lines_after numbers (suc k) ≢ lines_after numbers k → lines_after numbers (suc i) ≢ lines_after numbers i
+    at :
+        (i : ℕ) → (i < k) ⊎ (k ≤ i) → i < suc k → lines_after numbers (suc k) ≢ lines_after numbers k
+        → lines_after numbers (suc i) ≢ lines_after numbers i
     at i (inl h) less changed = before i h
-    at i (inr h) less changed = let same : k ≡ i = omega (arith, h, less) in subst (λ (j : ℕ). lines_after numbers (suc j) ≢ lines_after numbers j) same changed
+    at i (inr h) less changed =
+        let same : k ≡ i = omega (arith, h, less) in
+        subst (λ (j : ℕ). lines_after numbers (suc j) ≢ lines_after numbers j) same changed
 
-    go : (b : Bool) → (lines_after numbers (suc k) == lines_after numbers k) ≡ b → (lines_after numbers (suc k) ≢ lines_after numbers k → (r : ℕ) × Found numbers (lines_after numbers r) r) → (r : ℕ) × Found numbers (lines_after numbers r) r
-    go true same later = (k, record { shown = refl; within = within; differ = before; stays = eqb-true (lines_after numbers (suc k)) (lines_after numbers k) same })
+    go :
+        (b : Bool) → (lines_after numbers (suc k) == lines_after numbers k) ≡ b
+        → (lines_after numbers (suc k) ≢ lines_after numbers k → (r : ℕ) × Found numbers (lines_after numbers r) r)
+        → (r : ℕ) × Found numbers (lines_after numbers r) r
+    go true same later = (
+      k,
+      record {
+        shown = refl;
+        within = within;
+        differ = before;
+        stays = eqb-true (lines_after numbers (suc k)) (lines_after numbers k) same;
+      },
+    )
     go false other later = later (eqb-false (lines_after numbers (suc k)) (lines_after numbers k) other)
 
 -- The lines of a contest are a number of a board, and come in at most seven rounds.
@@ -96,7 +132,8 @@ pub settled : (numbers : List ℕ) → IsContest numbers → IsSettled numbers
 settled numbers c =
     let r = search numbers c 8 0 refl (λ i less. absurd (omega (arith, less))) (omega arith) in
     let rounds : r.0 ≡ settled_rounds numbers = found_rounds numbers c (lines_after numbers r.0) r.0 r.1 in
-    let lines : lines_after numbers r.0 ≡ settled_lines numbers = found_lines numbers c (lines_after numbers r.0) r.0 r.1 in
+    let lines : lines_after numbers r.0 ≡ settled_lines numbers =
+    found_lines numbers c (lines_after numbers r.0) r.0 r.1 in
     let shown : lines_after numbers r.0 ≡ highest numbers = found_highest numbers c (lines_after numbers r.0) r.0 r.1 in
     let number = listed numbers c.each (highest numbers) (members.highest-in numbers c.some) in
     record {

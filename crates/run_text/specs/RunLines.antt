@@ -30,7 +30,8 @@ abbrev pub AreWordsIf : Option Done → Type 0
 AreWordsIf None = Unit {0}
 AreWordsIf (Some done) = AreWords done.access done.reply
 
--- What an event has by its type alone: its words are words of 32 bits, and its lists are short and rise.
+-- What an event has by its type alone: its words are words of 32 bits, and its lists are short and
+-- rise.
 abbrev pub IsTyped : Event → Type 0
 IsTyped (Local board before after done) = AreWords done.access done.reply
 IsTyped (Drop board line before) = Unit {0}
@@ -38,7 +39,8 @@ IsTyped (Raise board) = Unit {0}
 IsTyped (Grant by winner lines rounds) = Unit {0}
 IsTyped (Connect t) = (length t.answers ≤ 15) × IsRising (answer_boards t.answers)
 IsTyped (DataPhase e) =
-    (length e.takers.boards ≤ 16) × IsRising e.takers.boards × (length e.states ≤ 16) × RisesAfterFirst (state_boards e.states) × AreWordsIf e.done
+    (length e.takers.boards ≤ 16) × IsRising e.takers.boards × (length e.states ≤ 16)
+    × RisesAfterFirst (state_boards e.states) × AreWordsIf e.done
 
 -- The event of each step from a sound configuration is spelled.
 abbrev pub StepsAreSpelled : Type 0
@@ -50,4 +52,5 @@ StepsAreSpelled =
 abbrev pub RunsAreSpelled : Type 0
 RunsAreSpelled =
     (setup : Setup) (events : List Event) (c : Configuration)
-    → WellFormed setup → AllInClass setup → Run setup events c → AllByRecursion (λ event. IsTyped event → InRange event) events
+    → WellFormed setup → AllInClass setup → Run setup events c
+    → AllByRecursion (λ event. IsTyped event → InRange event) events

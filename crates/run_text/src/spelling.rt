@@ -1,7 +1,8 @@
 //! The events of a run are spelled: each has a line.
 //!
-//! A line has a board from 1 to 16, a line of memory from 0 to 4,095, a word of 32 bits, and so on. That the numbers of
-//! each event of a run are such is a law over the definitions of the machine, and so no printer looks at them again.
+//! A line has a board from 1 to 16, a line of memory from 0 to 4,095, a word of 32 bits, and so on.
+//! That the numbers of each event of a run are such is a law over the definitions of the machine,
+//! and so no printer looks at them again.
 
 ghost use Rattle.run_text.specs.RunLines.{IsWordIf, AreWords, AreWordsIf, IsTyped, StepsAreSpelled, RunsAreSpelled};
 
@@ -39,7 +40,8 @@ fn are_words_if(done: &Option<Done>)
     }
 }
 
-/// What an event has by its type alone: its words are words of 32 bits, and its lists are short and rise.
+/// What an event has by its type alone: its words are words of 32 bits, and its lists are short and
+/// rise.
 pub fn is_typed(event: &Event)
     ensures { IsTyped event.now }
 {

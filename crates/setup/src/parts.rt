@@ -30,16 +30,27 @@ impl Model for Setup {
 }
 
 impl Setup {
-    /// The setup of these parts. There is a script for each board, and each board names its table by the place in the
-    /// list, from 0.
+    /// The setup of these parts. There is a script for each board, and each board names its table
+    /// by the place in the list, from 0.
     pub fn of(
         memory: Vec<u32>,
         tables: Vec<Table>,
         boards: Vec<BoardSpec>,
         scripts: Vec<Vec<Access>>,
     ) -> Setup
-        requires { WellFormed (record { memory = memory.items; tables = tables.items; boards = boards.items; scripts = rows scripts.items }) }
-        ensures { result ≡ record { memory = memory.items; tables = tables.items; boards = boards.items; scripts = rows scripts.items } }
+        requires { WellFormed (record {
+          memory = memory.items;
+          tables = tables.items;
+          boards = boards.items;
+          scripts = rows scripts.items;
+        }) }
+        ensures { result
+            ≡ record {
+              memory = memory.items;
+              tables = tables.items;
+              boards = boards.items;
+              scripts = rows scripts.items;
+            } }
     {
         Setup {
             memory,

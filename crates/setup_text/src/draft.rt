@@ -44,7 +44,8 @@ impl Model for Draft {
 /// Appends an access to the last script.
 fn add_access(scripts: &mut Vec<Vec<Access>>, access: Access) -> Result<(), NoMemory>
     requires { 1 ≤ length scripts.old.items }
-    ensures ok { OnOk result (rows scripts.new.items ≡ access_added (rows scripts.old.items) access) }
+    ensures ok { OnOk result
+        (rows scripts.new.items ≡ access_added (rows scripts.old.items) access) }
     ensures err { OnErr result (rows scripts.new.items ≡ rows scripts.old.items) }
 {
     let last = scripts.len() - 1;

@@ -10,10 +10,16 @@ use Rattle.replayer.proofs.Only.{only}
 use Rattle.replayer.proofs.pieces.Replay.finish.Goals as goal
 
 pub returns-clause-replayed : goal.returns-clause-replayed
-returns-clause-replayed c = λ text stands. c.answer.ensures.ending ∙ (ap (λ (p : Place Machine). ending close p) stands ∙ replayed_left step close (opened c.args.self.setup) text)
+returns-clause-replayed c =
+    λ text stands.
+    c.answer.ensures.ending
+    ∙ (ap (λ (p : Place Machine). ending close p) stands ∙ replayed_left step close (opened c.args.self.setup) text)
 
 pub returns-clause-says : goal.returns-clause-says
-returns-clause-says c = λ text stands. says_of c.args.self.setup (trace_of text) c.answer.result (returns-clause-replayed c text stands) c.answer.ensures.complete
+returns-clause-says c =
+    λ text stands.
+    says_of c.args.self.setup (trace_of text) c.answer.result (returns-clause-replayed c text stands)
+    c.answer.ensures.complete
 
 pub returns-clause-accepts : goal.returns-clause-accepts
 returns-clause-accepts c = λ text stands.
