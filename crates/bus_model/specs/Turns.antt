@@ -88,8 +88,7 @@ own_transaction Idle board = None
 own_transaction (Granted b) board = None
 own_transaction (Connected t) board = if t.master == board then Some t else None
 
--- A turn without the bus: the board completes its access, or waits for a line that is held (case
--- 3).
+-- A turn without the bus (case 3): the board completes its access, or waits for a line that is held.
 abbrev pub local_turn : Setup → Configuration → ℕ → Access → State → Turn
 local_turn setup c board access state =
     let line = access_line access in
@@ -172,10 +171,8 @@ abbrev pub events_of_turns : Setup → Configuration → List ℕ → List Event
 events_of_turns setup c [] = []
 events_of_turns setup c (board ∷ boards) =
     elim (turn setup c board) [
-      | Did event ↦ event
-          ∷ events_of_turns setup (after c event) boards
-      | Waits why ↦ events_of_turns setup c
-          boards
+      | Did event ↦ event ∷ events_of_turns setup (after c event) boards
+      | Waits why ↦ events_of_turns setup c boards
       | Finished ↦ events_of_turns setup c boards
     ]
 
