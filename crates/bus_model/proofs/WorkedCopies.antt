@@ -66,7 +66,13 @@ clean_victim_plays =
                 (
                   (
                     read 4,
-                    record { present = refl; not_raised = refl; not_granted = refl; not_connected = refl; needs = refl },
+                    record {
+                      present = refl;
+                      not_raised = refl;
+                      not_granted = refl;
+                      not_connected = refl;
+                      needs = refl;
+                    },
                   ),
                   (
                     record {
@@ -181,7 +187,10 @@ captured_plays =
       accepted = WorkedSetups.captured_accepted;
       turns = refl;
       runs = (
-        (write 0 5, record { present = refl; not_raised = refl; not_granted = refl; not_connected = refl; needs = refl }),
+        (
+          write 0 5,
+          record { present = refl; not_raised = refl; not_granted = refl; not_connected = refl; needs = refl },
+        ),
         (
           record {
             idle = refl;

@@ -20,7 +20,10 @@ write_through_word_plays =
       accepted = WorkedSetups.write_through_word_accepted;
       turns = refl;
       runs = (
-        (write 0 5, record { present = refl; not_raised = refl; not_granted = refl; not_connected = refl; needs = refl }),
+        (
+          write 0 5,
+          record { present = refl; not_raised = refl; not_granted = refl; not_connected = refl; needs = refl },
+        ),
         (
           record {
             idle = refl;
@@ -213,7 +216,10 @@ victim_flush_plays =
       accepted = WorkedSetups.victim_flush_accepted;
       turns = refl;
       runs = (
-        (write 0 1, record { present = refl; not_raised = refl; not_granted = refl; not_connected = refl; needs = refl }),
+        (
+          write 0 1,
+          record { present = refl; not_raised = refl; not_granted = refl; not_connected = refl; needs = refl },
+        ),
         (
           record {
             idle = refl;
@@ -353,7 +359,10 @@ given_up_plays =
       accepted = WorkedSetups.given_up_accepted;
       turns = refl;
       runs = (
-        (write 0 5, record { present = refl; not_raised = refl; not_granted = refl; not_connected = refl; needs = refl }),
+        (
+          write 0 5,
+          record { present = refl; not_raised = refl; not_granted = refl; not_connected = refl; needs = refl },
+        ),
         (
           record {
             idle = refl;
@@ -579,7 +588,10 @@ alternation_plays =
       accepted = WorkedSetups.alternation_accepted;
       turns = refl;
       runs = (
-        (write 0 1, record { present = refl; not_raised = refl; not_granted = refl; not_connected = refl; needs = refl }),
+        (
+          write 0 1,
+          record { present = refl; not_raised = refl; not_granted = refl; not_connected = refl; needs = refl },
+        ),
         (
           record {
             idle = refl;

@@ -21,7 +21,10 @@ intervention_plays =
       accepted = WorkedSetups.intervention_accepted;
       turns = refl;
       runs = (
-        (write 5 7, record { present = refl; not_raised = refl; not_granted = refl; not_connected = refl; needs = refl }),
+        (
+          write 5 7,
+          record { present = refl; not_raised = refl; not_granted = refl; not_connected = refl; needs = refl },
+        ),
         (
           record {
             idle = refl;
@@ -109,7 +112,10 @@ broadcast_plays =
       accepted = WorkedSetups.broadcast_accepted;
       turns = refl;
       runs = (
-        (write 0 5, record { present = refl; not_raised = refl; not_granted = refl; not_connected = refl; needs = refl }),
+        (
+          write 0 5,
+          record { present = refl; not_raised = refl; not_granted = refl; not_connected = refl; needs = refl },
+        ),
         (
           record {
             idle = refl;

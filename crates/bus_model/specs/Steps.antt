@@ -76,7 +76,8 @@ pub record ForVictim (setup : Setup) (rows : List Row) (t : Transaction) (access
   where
     pub wants : IsTrue (wants_row setup rows t.master access)
     pub victim :
-        victim setup rows t.master (access_line access) ≡ Some (t.line, state_at rows t.master t.line)
+        victim setup rows t.master (access_line access)
+        ≡ Some (t.line, state_at rows t.master t.line)
     pub owned : IsTrue (owns (state_at rows t.master t.line))
     pub event : t.event ≡ Flu
     pub outcome : t.outcome ≡ Fixed I

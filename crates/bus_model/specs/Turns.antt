@@ -88,7 +88,8 @@ own_transaction Idle board = None
 own_transaction (Granted b) board = None
 own_transaction (Connected t) board = if t.master == board then Some t else None
 
--- A turn without the bus (case 3): the board completes its access, or waits for a line that is held.
+-- A turn without the bus (case 3): the board completes its access, or waits for a line that is
+-- held.
 abbrev pub local_turn : Setup → Configuration → ℕ → Access → State → Turn
 local_turn setup c board access state =
     let line = access_line access in

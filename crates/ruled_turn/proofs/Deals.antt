@@ -57,36 +57,40 @@ module _ {M B E : Type 0} (base : M → B) (entries : M → List (ℕ × E)) (ke
       (value : M) (words : List ℕ) → key.value.value ≡ value → 0 < key.seats → key.seats ≤ 1024
       → length (entries value) < 2 ^ 49 → words ≡ 0 ∷ 0 ∷ length (entries value) ∷ []
       → InTurn base entries key (opening words (Some value ∷ []) (opener base entries key))
-  opens value words is any few short laid = let start : List (ℕ × E) = entries key.value.value in let v : V = opener base entries key in let long : length start ≡ length (entries value) = ap (λ (m : M). length (entries m)) is in record {
-    ticket = 0;
-    serving = 0;
-    history = start;
-    owner = λ _. 0;
-    taker = λ _. 0;
-    words = laid ∙ ap (λ (n : ℕ). 0 ∷ 0 ∷ n ∷ []) (sym long);
-    small = (few, omega arith);
-    waiting = refl;
-    made = (let h = fresh_turns start 1 key.seats in omega arith);
-    all_seats = (let h = fresh_length start 1 key.seats in omega arith);
-    counted = omega arith;
-    past = ([], sym (append-nil start), λ k d l. absurd (omega arith));
-    each_view = alone_at (ViewOk base entries key 0 0 start (λ _. 0) (λ _. 0) (some (Some value) ∷ [])) v record {
-      based = λ _. refl;
-      accounts =
-          λ k a at. let h = fresh_at start 1 key.seats k a at in subst (AccountOk base entries key start (λ _. 0) 0) h.1
-          record {
-            numbered = (let l = h.0 in (omega arith, omega arith));
-            owned = refl;
-            seen = same_list start start refl;
-            mine = refl;
-            turns = omega arith;
-          };
-      drew = λ t e. absurd (none-some t e);
-      holds = λ e. absurd (true≢false (sym e));
-      entered = λ e. absurd (true≢false (sym e));
-    };
-    place = inl (value, refl, ap entries (sym is), ap base (sym is));
-  }
+  opens value words is any few short laid =
+      let start : List (ℕ × E) = entries key.value.value in
+      let v : V = opener base entries key in
+      let long : length start ≡ length (entries value) = ap (λ (m : M). length (entries m)) is in record {
+        ticket = 0;
+        serving = 0;
+        history = start;
+        owner = λ _. 0;
+        taker = λ _. 0;
+        words = laid ∙ ap (λ (n : ℕ). 0 ∷ 0 ∷ n ∷ []) (sym long);
+        small = (few, omega arith);
+        waiting = refl;
+        made = (let h = fresh_turns start 1 key.seats in omega arith);
+        all_seats = (let h = fresh_length start 1 key.seats in omega arith);
+        counted = omega arith;
+        past = ([], sym (append-nil start), λ k d l. absurd (omega arith));
+        each_view = alone_at (ViewOk base entries key 0 0 start (λ _. 0) (λ _. 0) (some (Some value) ∷ [])) v record {
+          based = λ _. refl;
+          accounts =
+              λ k a at. let h = fresh_at start 1 key.seats k a at in
+              subst (AccountOk base entries key start (λ _. 0) 0) h.1
+              record {
+                numbered = (let l = h.0 in (omega arith, omega arith));
+                owned = refl;
+                seen = same_list start start refl;
+                mine = refl;
+                turns = omega arith;
+              };
+          drew = λ t e. absurd (none-some t e);
+          holds = λ e. absurd (true≢false (sym e));
+          entered = λ e. absurd (true≢false (sym e));
+        };
+        place = inl (value, refl, ap entries (sym is), ap base (sym is));
+      }
 
   -- The first seat of the view id goes to a new view.
   pub deals :
@@ -169,7 +173,10 @@ module _ {M B E : Type 0} (base : M → B) (entries : M → List (ℕ × E)) (ke
               holds = q.holds;
               entered = q.entered;
             }) j u e)
-            (λ (t : (j ≡ length vs) × (x ≡ u)). subst (λ (z : ℕ × V). ViewOk base entries key r.ticket r.serving r.history owner r.taker s.homes z.0 z.1) (λ i. (sym (t.0 ∙ long) i, t.1 i)) record {
+            (λ (t : (j ≡ length vs) × (x ≡ u)).
+            subst (λ (z : ℕ × V).
+            ViewOk base entries key r.ticket r.serving r.history owner r.taker s.homes z.0 z.1)
+            (λ i. (sym (t.0 ∙ long) i, t.1 i)) record {
               based = λ _. is_based;
               accounts =
                   subst (λ (bs : List (Account E)).

@@ -157,7 +157,13 @@ module _ {M B E : Type 0} (base : M → B) (entries : M → List (ℕ × E)) (ke
                     → AccountOk base entries key r.history r.owner id b) (sym one')
                     (alone (AccountOk base entries key r.history r.owner id) next
                     (let o = ok.accounts 0 a (ap (λ (bs : List (Account E)). get_elem? bs 0) one) in
-                    record { numbered = o.numbered; owned = o.owned; seen = o.seen; mine = o.mine; turns = omega arith }));
+                    record {
+                      numbered = o.numbered;
+                      owned = o.owned;
+                      seen = o.seen;
+                      mine = o.mine;
+                      turns = omega arith;
+                    }));
                 drew =
                     λ x is.
                     let same = same_number t x is in

@@ -67,13 +67,15 @@ module _ (setup : Setup) (events : List Event) (c : Configuration) (well : WellF
 
     -- The answers to a transaction name boards.
     answers_name :
-        (t : Transaction) → AnswersFit setup c.rows t.line t.event (other_holders setup c.rows t.master t.line) t.answers
+        (t : Transaction)
+        → AnswersFit setup c.rows t.line t.event (other_holders setup c.rows t.master t.line) t.answers
         → answer_boards t.answers ≡ other_holders setup c.rows t.master t.line
     answers_name t fit =
         answers_boards setup c.rows t.line t.event (other_holders setup c.rows t.master t.line) t.answers fit
 
     each_named :
-        (t : Transaction) → AnswersFit setup c.rows t.line t.event (other_holders setup c.rows t.master t.line) t.answers
+        (t : Transaction)
+        → AnswersFit setup c.rows t.line t.event (other_holders setup c.rows t.master t.line) t.answers
         → AllByRecursion IsBoard (answer_boards t.answers)
     each_named t fit =
         subst (AllByRecursion IsBoard) (sym (answers_name t fit)) (holders_are setup c.rows t.master t.line well)
@@ -98,7 +100,8 @@ module _ (setup : Setup) (events : List Event) (c : Configuration) (well : WellF
             → IsCarried e.done
         go true k =
             subst IsCarried (sym k)
-            (done_is setup well c.boards e.master access (reply_of access words) words q refl (subst AreWordsIf k typed))
+            (done_is setup well c.boards e.master access (reply_of access words) words q refl
+            (subst AreWordsIf k typed))
         go false k = subst IsCarried (sym k) tt
 
     source_ok :

@@ -156,11 +156,13 @@ module _ (rest : List Place) (line : ℕ) where
       → Faulty (text n ws ts bs) line (codes "word" ∷ l) rest k
   word_stops n ws (t ∷ ts) bs l k h e =
       unknown (text n ws (t ∷ ts) bs) (codes "word") l k h
-      (λ more others f. (let x = word_stage (text n ws (t ∷ ts) bs) more others f in let none : t ∷ ts ≡ [] = x.0 in cc))
+      (λ more others f.
+      (let x = word_stage (text n ws (t ∷ ts) bs) more others f in let none : t ∷ ts ≡ [] = x.0 in cc))
       cc
   word_stops n ws [] (b ∷ bs) l k h e =
       unknown (text n ws [] (b ∷ bs)) (codes "word") l k h
-      (λ more others f. (let x = word_stage (text n ws [] (b ∷ bs)) more others f in let none : b ∷ bs ≡ [] = x.1 in cc))
+      (λ more others f.
+      (let x = word_stage (text n ws [] (b ∷ bs)) more others f in let none : b ∷ bs ≡ [] = x.1 in cc))
       cc
   word_stops n ws [] [] l k h e = go (value_line (length (setup_of (text n ws [] [])).memory) l) refl e
     where

@@ -73,7 +73,8 @@ head_takes ts l m s e =
     (λ after. head_line (tables_of ts) after >>= λ name. Ok (within (tables_of ts) (empty_table name))) m e in
     let b = binds (head_line (tables_of ts) a.value) (λ name. Ok (within (tables_of ts) (empty_table name))) m a.then in
     let r = head_read (tables_of ts) a.value b.value b.here in
-    grows_by (wholes ts) (head_row b.value) l m (word_read (codes "table") l a.value a.here ∙ ap (λ (u : Words). codes "table" ∷ u) r.words) (record {
+    grows_by (wholes ts) (head_row b.value) l m
+    (word_read (codes "table") l a.value a.here ∙ ap (λ (u : Words). codes "table" ∷ u) r.words) (record {
       next = inside ts (table_text b.value []);
       good = (s, record { fits = record { name = r.named_; cells = tt }; cells = tt; few = r.few; new = r.new });
       mode = ok_same (within (tables_of ts) (empty_table b.value)) m b.then;
@@ -319,6 +320,7 @@ module _ {X : Type 0} (bytes : List ℕ) (view : X → List Table) where
           let both : ◌≡◌ {A = Result (List Table) Fault} (Ok (view v)) (Ok (tables_of ts)) = sym given ∙ read in cc
       go (Err faults.NoMemory) given read = tt
       go (Err (faults.Bad line kind)) given read =
-          let both : ◌≡◌ {A = Result (List Table) Fault} (Err (record { line = line; kind = kind })) (Ok (tables_of ts)) =
+          let both : ◌≡◌ {A = Result (List Table) Fault} (Err (record { line = line; kind = kind }))
+          (Ok (tables_of ts)) =
           sym given ∙ read in
           absurd cc

@@ -134,7 +134,8 @@ peel_accesses (a ∷ ps) [] bs [] l others fits e =
 peel_accesses (a ∷ ps) [] bs (d ∷ ds) l others fits e =
     absurd (let same : access_row a ≡ board_row d = cc in no_access_board a d same)
 peel_accesses (a ∷ ps) (c ∷ cs) bs ds l others fits e =
-    let rest : map access_row ps ++ (boards_rows bs ++ (l ∷ others)) ≡ map access_row cs ++ (boards_rows ds ++ (end_row ∷ [])) =
+    let rest : map access_row ps ++ (boards_rows bs ++ (l ∷ others))
+    ≡ map access_row cs ++ (boards_rows ds ++ (end_row ∷ [])) =
     cc in
     peel_accesses ps cs bs ds l others fits.1 rest
 

@@ -106,7 +106,8 @@ word_keeps s addr value d small =
       numbers = d.numbers;
       scripts = d.scripts;
       addresses =
-          (let P : ℕ → Type 0 = λ n. All (All (λ access. address_of access < n)) s.scripts in subst P within d.addresses);
+          (let P : ℕ → Type 0 = λ n. All (All (λ access. address_of access < n)) s.scripts in
+          subst P within d.addresses);
       accesses = d.accesses;
     }
 

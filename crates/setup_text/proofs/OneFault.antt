@@ -106,21 +106,23 @@ module _ {S : Type 0} (g : Grammar S SetupKind) where
   pub fault_stays :
       (ls more : List Line) (end l : ℕ) (k : SetupKind) → (f : FirstFault g (lines_places ls end) l k)
       → (f.place.item ≡ text_end → ⊥) → FirstFault g (lines_places (ls ++ more) end) l k
-  fault_stays ls more end l k f inside = elim (split_append (front ls) (lines_places [] end) f.before f.place f.after (sym (front_end ls end) ∙ f.parts)) [
-    | inl s ↦ record {
-      before = f.before;
-      place = f.place;
-      after = s.0 ++ lines_places more end;
-      parts =
-          front_parts ls more end
-          ∙ (ap (λ (x : List Place). x ++ lines_places more end) s.1
-          ∙ append_assoc f.before (f.place ∷ s.0) (lines_places more end));
-      fine = f.fine;
-      fault = f.fault;
-      on_line = f.on_line;
-    }
-    | inr s ↦ absurd (inside (at_end s.front f.place f.after end s.rest))
-  ]
+  fault_stays ls more end l k f inside =
+      elim
+      (split_append (front ls) (lines_places [] end) f.before f.place f.after (sym (front_end ls end) ∙ f.parts)) [
+        | inl s ↦ record {
+          before = f.before;
+          place = f.place;
+          after = s.0 ++ lines_places more end;
+          parts =
+              front_parts ls more end
+              ∙ (ap (λ (x : List Place). x ++ lines_places more end) s.1
+              ∙ append_assoc f.before (f.place ∷ s.0) (lines_places more end));
+          fine = f.fine;
+          fault = f.fault;
+          on_line = f.on_line;
+        }
+        | inr s ↦ absurd (inside (at_end s.front f.place f.after end s.rest))
+      ]
 
 -- A side condition that is judged at a word fails at no end.
 pub breaks_word :

@@ -82,7 +82,8 @@ cells_mode setup t (c ∷ cells) m e = go (is_end (cell_words c)) (cell_no_end c
         (x : Result Table TableKind)
         → ((as_setup_kind (x >>= λ cells. Ok (false, cells)) >>= λ t. Ok (after_table_line setup t)) >>=
         λ k. rows_at k (map cell_words cells)) ≡ Ok m
-        → ((u : Table) → rows_at (in_table setup u) (map cell_words cells) ≡ Ok m → (v : Table) × (m ≡ in_table setup v))
+        → ((u : Table) → rows_at (in_table setup u) (map cell_words cells) ≡ Ok m
+        → (v : Table) × (m ≡ in_table setup v))
         → (v : Table) × (m ≡ in_table setup v)
     there (Err k) e ih = absurd cc
     there (Ok u) e ih = ih u e
@@ -92,7 +93,8 @@ cells_mode setup t (c ∷ cells) m e = go (is_end (cell_words c)) (cell_no_end c
         → ((as_setup_kind (cond b (TableReading.line_ends (drop 1 (cell_words c)) >>= λ _. Ok (true, t))
         (cell_line t (cell_words c) >>= λ cells. Ok (false, cells))) >>=
         λ t. Ok (after_table_line setup t)) >>= λ k. rows_at k (map cell_words cells)) ≡ Ok m
-        → ((u : Table) → rows_at (in_table setup u) (map cell_words cells) ≡ Ok m → (v : Table) × (m ≡ in_table setup v))
+        → ((u : Table) → rows_at (in_table setup u) (map cell_words cells) ≡ Ok m
+        → (v : Table) × (m ≡ in_table setup v))
         → (v : Table) × (m ≡ in_table setup v)
     go true h e ih = absurd cc
     go false h e ih = there (cell_line t (cell_words c)) e ih

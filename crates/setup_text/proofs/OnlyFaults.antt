@@ -81,10 +81,12 @@ one_judged name setup words w k j h i = h.1 ∙ sym i.1
 one_judged place setup words w k j h i = h.1 ∙ sym i.1
 one_judged number setup words w k j (n, low, is, has, kind) (m, small, also, holds, called) = kind ∙ sym called
 one_judged table setup words w k j h i = h.1 ∙ sym i.1
-one_judged shape setup words w k j (e, t, s, among, named, reached, not_i, kind) (f, u, r, here, known, found, no_i, called) =
+one_judged shape setup words w k j (e, t, s, among, named, reached, not_i, kind)
+    (f, u, r, here, known, found, no_i, called) =
     kind ∙ sym called
 one_judged sets setup words w k j h i = absurd h
-one_judged ways setup words w k j (m, n, sets_low, ways_low, last, is, over, kind) (p, q, sets_few, ways_few, before, also, more, called) =
+one_judged ways setup words w k j (m, n, sets_low, ways_low, last, is, over, kind)
+    (p, q, sets_few, ways_few, before, also, more, called) =
     let one : m ≡ p = decimal_same m p (omega arith) (omega arith) (sym last ∙ before) in
     let two : n ≡ q = decimal_same n q (omega arith) (omega arith) (sym is ∙ also) in
     kind ∙ (ap (λ (x : ℕ). Limit Frames (x * n)) one ∙ (ap (λ (x : ℕ). Limit Frames (p * x)) two ∙ sym called))

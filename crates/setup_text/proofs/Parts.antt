@@ -335,7 +335,14 @@ fits_access b a h fits =
 fits_before : (b : BoardText) (a : Access) → BoardFits (and_access b a) → BoardFits b × AccessFits a
 fits_before b a h =
     let script = each_before AccessFits b.script a h.script in (
-      record { place = h.place; number = h.number; table = h.table; shape = h.shape; choose = h.choose; script = script.0 },
+      record {
+        place = h.place;
+        number = h.number;
+        table = h.table;
+        shape = h.shape;
+        choose = h.choose;
+        script = script.0;
+      },
       script.1,
     )
 

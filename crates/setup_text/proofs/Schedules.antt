@@ -338,7 +338,8 @@ module _ (boards : ℕ) (some : 1 ≤ boards) (few : boards ≤ 16) where
           let one = line_takes boards turns l.words mid few h in
           let fit : TurnsFit boards one.places = (some_places one.places l.words one.words have.0, one.fit) in
           let more = ih (done ++ one.places ∷ []) mid (fit_push done one.places all fit) e in
-          let behind = behind_line (schedule_grammar boards) rows_of (text_end ∷ []) closed spelled J judged breaks (rows_of done) l.number (map decimal one.places) (lines_places ls end) f.line f.kind
+          let behind = behind_line (schedule_grammar boards) rows_of (text_end ∷ []) closed spelled J judged breaks
+          (rows_of done) l.number (map decimal one.places) (lines_places ls end) f.line f.kind
           (done ++ one.places ∷ [], [], fit_push done one.places all fit, rows_push done one.places) (λ p w q e k j. j)
           (subst (λ (v : List Words). FaultBehind (schedule_grammar boards) v (lines_places ls end) f.line f.kind)
           (rows_push done one.places) more) in

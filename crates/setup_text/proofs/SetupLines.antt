@@ -82,7 +82,8 @@ first_takes l m e =
     m e in
     let b = binds (memory_line a.value) (λ lines. Ok (body (empty_setup lines))) m a.then in
     let n = memory_read a.value b.value b.here in
-    grows_by begin (memory_row b.value) l m (word_read (codes "memory") l a.value a.here ∙ ap (λ (u : Words). codes "memory" ∷ u) n.0) (record {
+    grows_by begin (memory_row b.value) l m
+    (word_read (codes "memory") l a.value a.here ∙ ap (λ (u : Words). codes "memory" ∷ u) n.0) (record {
       next = so_far (text b.value [] [] []);
       good = stands_memory b.value n.1 n.2;
       mode = ok_same (body (empty_setup b.value)) m b.then;
@@ -100,7 +101,8 @@ word_takes n ws [] [] l m s e =
     let a = binds (value_line (length setup.memory) l) (λ a. Ok (body (with_word setup a.0 a.1))) m e in
     let r = value_line_read (length setup.memory) l a.value a.here in
     let low : a.value.0 < length (memory_of n ws) = r.1 in
-    grows_by (so_far (text n ws [] [])) (word_row a.value) (codes "word" ∷ l) m (ap (λ (u : Words). codes "word" ∷ u) r.0) (record {
+    grows_by (so_far (text n ws [] [])) (word_row a.value) (codes "word" ∷ l) m
+    (ap (λ (u : Words). codes "word" ∷ u) r.0) (record {
       next = so_far (text n (ws ++ a.value ∷ []) [] []);
       good = stands_word n ws a.value s (r.2, r.3) (omega (arith, memory_long n ws));
       mode =
@@ -118,7 +120,8 @@ head_takes n ws ts [] l m s e =
     let setup = setup_of (text n ws ts []) in
     let a = binds (head_line setup.tables l) (λ name. Ok (in_table setup (empty_table name))) m e in
     let r = head_read setup.tables l a.value a.here in
-    grows_by (so_far (text n ws ts [])) (head_row a.value) (codes "table" ∷ l) m (ap (λ (u : Words). codes "table" ∷ u) r.words) (record {
+    grows_by (so_far (text n ws ts [])) (head_row a.value) (codes "table" ∷ l) m
+    (ap (λ (u : Words). codes "table" ∷ u) r.words) (record {
       next = opened (text n ws ts []) (table_text a.value []);
       good =
           record {
@@ -284,7 +287,8 @@ access_takes n ws ts bs event l m s e = go (empty_or_last bs)
                 (λ access. Ok (body (with_access (setup_of (text n ws ts (front ++ b ∷ []))) access))) m e in
                 let r =
                 access_words (length (setup_of (text n ws ts (front ++ b ∷ []))).memory) event l a.value a.here in
-                grows_by (so_far (text n ws ts (front ++ b ∷ []))) (access_row a.value) (local_event_word event ∷ l) m r.words (record {
+                grows_by (so_far (text n ws ts (front ++ b ∷ []))) (access_row a.value) (local_event_word event ∷ l)
+                m r.words (record {
                   next = so_far (text n ws ts (front ++ and_access b a.value ∷ []));
                   good =
                       stands_access n ws ts front b a.value s r.fits
@@ -303,7 +307,8 @@ end_takes n ws ts [] l m s e = absurd cc
 end_takes n ws ts (b ∷ bs) l m s e =
     let setup = setup_of (text n ws ts (b ∷ bs)) in
     let a = binds (line_ends l) (λ _. Ok (ended setup)) m e in
-    grows_by (so_far (text n ws ts (b ∷ bs))) end_row (codes "end" ∷ l) m (ap (λ (u : Words). codes "end" ∷ u) (nothing_read l a.value a.here)) (record {
+    grows_by (so_far (text n ws ts (b ∷ bs))) end_row (codes "end" ∷ l) m
+    (ap (λ (u : Words). codes "end" ∷ u) (nothing_read l a.value a.here)) (record {
       next = closed (text n ws ts (b ∷ bs));
       good = (s, omega arith);
       mode = ok_same (ended setup) m a.then;

@@ -32,7 +32,12 @@ place_of (t ∷ tables) name = if bytes_eq name t.name then 0 else place_of tabl
 -- A board, among these tables.
 abbrev pub board_of : List Table → BoardText → BoardSpec
 board_of tables b =
-    record { number = b.number; table = place_of tables b.table; shape = b.shape; choose = b.choose }
+    record {
+      number = b.number;
+      table = place_of tables b.table;
+      shape = b.shape;
+      choose = b.choose;
+    }
 
 -- The setup that is written.
 abbrev pub setup_of : SetupText → Setup

@@ -102,4 +102,5 @@ pub is_read_again :
     (name : List ℕ) (u left : Unread) (r : Result Table TableFault) → GivesTable r left (table_at name u)
     → (t : Table) (rest : List ℕ) → IsWhole t → name ≡ t.name → u ≡ after_head (written_table t ++ rest) → IsReadAs r t
 is_read_again name u left r given t rest p named here =
-    (goes_on name u left r given t 1 (unread (written_table t ++ rest)).end rest p named (here ∙ after_first t rest p)).0
+    (goes_on name u left r given t 1 (unread (written_table t ++ rest)).end rest p named
+    (here ∙ after_first t rest p)).0

@@ -312,7 +312,9 @@ passes_line :
     → Passed done t → HasAlternative c → CanStand t c → ws ≡ cell_words c → Faulty (done ++ c ∷ []) rest f
     → Faulty done (line_places n ws rest) f
 passes_line done t n ws rest f c p some can e h =
-    let behind = behind_line table_grammar table_rows [] closed spelled BreaksCell given given (rows done) n (cell_words c) rest f.line f.kind (has_row done c p.all some) (free_front (rows done) (cell_words c) (few_row t c can) (new_row t (rows done) c p.marks can))
+    let behind = behind_line table_grammar table_rows [] closed spelled BreaksCell given given (rows done) n
+    (cell_words c) rest f.line f.kind (has_row done c p.all some)
+    (free_front (rows done) (cell_words c) (few_row t c can) (new_row t (rows done) c p.marks can))
     (subst (λ (x : List Words). FaultBehind table_grammar x rest f.line f.kind) (rows_push done c) h) in
     subst (λ (x : Words). Faulty done (line_places n x rest) f) (sym e) behind
 

@@ -245,7 +245,8 @@ snoop_found s ws kind ch di sl e1 e2 e3 (u ∷ us) h e = go (bytes_eq u bar) ref
         let regroup : (v : Words) → (c ++ (d ++ l)) ++ v ≡ c ++ (d ++ (l ++ v)) =
         λ v. append_assoc c (d ++ l) v ∙ ap (λ (x : Words). c ++ x) (append_assoc d l v) in
         let same : UnknownWord ≡ kind = cc in
-        let stays : (more : Words) → snoop_rest s (c ++ (d ++ (l ++ u ∷ more))) ≡ Err UnknownWord = snoop_local s ch.0 di.0 sl.0 u us k
+        let stays : (more : Words) → snoop_rest s (c ++ (d ++ (l ++ u ∷ more))) ≡ Err UnknownWord =
+        snoop_local s ch.0 di.0 sl.0 u us k
         (ap (λ (v : Words). (signal_at (codes "CH") v).0) (sym w1) ∙ ap (λ (y : Bool × Words). y.0) e1)
         (ap (λ (v : Words). (signal_at (codes "DI") v).0) (sym w2) ∙ ap (λ (y : Bool × Words). y.0) e2)
         (ap (λ (v : Words). (signal_at (codes "SL") v).0) (sym w3) ∙ ap (λ (y : Bool × Words). y.0) e3) in

@@ -46,7 +46,8 @@ module _ {A X : Type 0} (first : List ℕ → Option X) (read : TableKind → Wo
     FewWhy room missing front at kind = FewBars room front × WhyAlts room missing front at kind
 
     front_alts :
-        (a : A) (alts : List A) → 0 < length alts → alternative_words f (a ∷ alts) ≡ f a ++ bar ∷ alternative_words f alts
+        (a : A) (alts : List A) → 0 < length alts
+        → alternative_words f (a ∷ alts) ≡ f a ++ bar ∷ alternative_words f alts
     front_alts a [] some = absurd (omega arith)
     front_alts a (b ∷ more) some = refl
 
@@ -82,7 +83,8 @@ module _ {A X : Type 0} (first : List ℕ → Option X) (read : TableKind → Wo
     why_one room missing front (Some w) kind h = inl h
 
     stop_behind :
-        (room : ℕ) (missing : TableKind) (t : Table) (ws rest : Words) (a : A) (kind : TableKind) → ws ≡ f a ++ bar ∷ rest
+        (room : ℕ) (missing : TableKind) (t : Table) (ws rest : Words) (a : A) (kind : TableKind)
+        → ws ≡ f a ++ bar ∷ rest
         → Stops (alternatives first read add room UnknownWord (add t a)) BeginsAlts (FewWhy room UnknownWord) rest kind
         → Stops (alternatives first read add (suc room) missing t) BeginsAlts (FewWhy (suc room) missing) ws kind
     unfolding alternatives
@@ -91,7 +93,9 @@ module _ {A X : Type 0} (first : List ℕ → Option X) (read : TableKind → Wo
       at = s.at;
       rest = s.rest;
       parts =
-          e ∙ (ap (λ (v : Words). f a ++ bar ∷ v) s.parts ∙ sym (append_assoc (f a) (bar ∷ s.front) (from s.at s.rest)));
+          e
+          ∙ (ap (λ (v : Words). f a ++ bar ∷ v) s.parts
+          ∙ sym (append_assoc (f a) (bar ∷ s.front) (from s.at s.rest)));
       begins = begins_behind a s.front s.begins;
       why = (few_behind room (f a) s.front (none a) s.why.0, why_behind room missing a s.front s.at kind s.why.1);
       local =
@@ -122,7 +126,8 @@ module _ {A X : Type 0} (first : List ℕ → Option X) (read : TableKind → Wo
     one_read :
         (room : ℕ) (missing : TableKind) (t : Table) (ws : Words) (kind : TableKind)
         (r : Result (A × Bool × Words) TableKind) → read missing ws ≡ r
-        → (r >>= λ x. cond x.1 (alternatives first read add room UnknownWord (add t x.0) x.2) (Ok (add t x.0))) ≡ Err kind
+        → (r >>= λ x. cond x.1 (alternatives first read add room UnknownWord (add t x.0) x.2) (Ok (add t x.0)))
+        ≡ Err kind
         → ((u : Table) (vs : Words) → alternatives first read add room UnknownWord u vs ≡ Err kind
         → Stops (alternatives first read add room UnknownWord u) BeginsAlts (FewWhy room UnknownWord) vs kind)
         → Stops (alternatives first read add (suc room) missing t) BeginsAlts (FewWhy (suc room) missing) ws kind

@@ -130,7 +130,12 @@ sum_with_entry :
 sum_with_entry history board None = omega arith
 sum_with_entry history board (Some done) =
     sum_by_push (λ (e : Entry). unwrap_or e.reply 0) history
-    (record { board = board; place = suc (length (entries_of board history)); access = done.access; reply = done.reply })
+    (record {
+      board = board;
+      place = suc (length (entries_of board history));
+      access = done.access;
+      reply = done.reply;
+    })
 
 sum_with :
     (history : List Entry) (event : Event)

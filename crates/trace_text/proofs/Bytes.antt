@@ -112,4 +112,5 @@ joined_ink between [] high ink = refl
 joined_ink between (w ∷ []) high ink = ink.0
 joined_ink between (w ∷ v ∷ ws) high ink =
     ink_append w (between ∷ join_with_byte between (v ∷ ws)) ink.0
-    (both_true (ltb 32 between) (is_ink (join_with_byte between (v ∷ ws))) high (joined_ink between (v ∷ ws) high ink.1))
+    (both_true (ltb 32 between) (is_ink (join_with_byte between (v ∷ ws))) high
+    (joined_ink between (v ∷ ws) high ink.1))

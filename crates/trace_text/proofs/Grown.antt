@@ -198,7 +198,8 @@ answers_is (w ∷ ws) xs ys few e =
         (longer : List Answer) → added_answer xs (answer_of w) ≡ Some longer → ReadAnswers longer ws ys
         → ReadAnswers xs (w ∷ ws) ys
     more longer h r =
-        let a = added_answer_is xs (answer_of w) longer h in let one : Answer = a.0 in let is = answer_is w one a.1 in record {
+        let a = added_answer_is xs (answer_of w) longer h in
+        let one : Answer = a.0 in let is = answer_is w one a.1 in record {
           answers = one ∷ r.answers;
           all = r.all ∙ (ap (λ (z : List Answer). z ++ r.answers) (sym a.2) ∙ append_assoc xs (one ∷ []) r.answers);
           words = λ i. is.0 i ∷ r.words i;
@@ -321,20 +322,25 @@ states_are master (w ∷ ws) ss all rest some few e =
     go (bytes_eq w (codes "done")) refl (λ longer some few h. states_are master ws longer all rest some few h)
   where
     ended : bytes_eq w (codes "done") ≡ true → ReadStates master ss (w ∷ ws) all rest
-    ended h = let same = some_same {A = List (ℕ × State) × Words} (ss, ws) (all, rest) (sym (states_done master ss w ws h) ∙ e) in record {
-      states = [];
-      total = ap (λ (z : List (ℕ × State) × Words). z.0) (sym same) ∙ sym (append-nil ss);
-      words = λ i. is_word w (codes "done") h i ∷ (same i).1;
-      above = tt;
-      apart = tt;
-      few = omega arith;
-    }
+    ended h =
+        let same =
+        some_same {A = List (ℕ × State) × Words} (ss, ws) (all, rest) (sym (states_done master ss w ws h) ∙ e)
+        in
+        record {
+          states = [];
+          total = ap (λ (z : List (ℕ × State) × Words). z.0) (sym same) ∙ sym (append-nil ss);
+          words = λ i. is_word w (codes "done") h i ∷ (same i).1;
+          above = tt;
+          apart = tt;
+          few = omega arith;
+        }
 
     more :
         (longer : List (ℕ × State)) → added_state master ss (placed_of w) ≡ Some longer
         → ReadStates master longer ws all rest → ReadStates master ss (w ∷ ws) all rest
     more longer h r =
-        let a = added_state_is master ss (placed_of w) longer h in let one : ℕ × State = a.0 in let is = placed_is w one a.1 in record {
+        let a = added_state_is master ss (placed_of w) longer h in
+        let one : ℕ × State = a.0 in let is = placed_is w one a.1 in record {
           states = one ∷ r.states;
           total =
               r.total ∙ (ap (λ (z : List (ℕ × State)). z ++ r.states) (sym a.2) ∙ append_assoc ss (one ∷ []) r.states);

@@ -13,7 +13,8 @@ gather-closer-requires-clause-all g c = let a = c.requires.all in let b = c.args
 pub unwrap-requires : goal.unwrap-requires
 unwrap-requires g c =
     let place = c.gather-closer.ensures.place in let base = g.M.Turned.base in let entries = g.M.Turned.entries in
-    let back = comes_back base entries c.args.self.table.shared.key c.gather-closer.result.id c.gather-closer.result.me.0 _ _ c.take-value.result
+    let back = comes_back base entries c.args.self.table.shared.key c.gather-closer.result.id
+    c.gather-closer.result.me.0 _ _ c.take-value.result
     (ap (λ m. m.0.holds) place)
     (ap (λ m. length m.0.accounts) place ∙ (length-map c.args.seats.items account_of ∙ c.requires.all))
     c.close_with-closed.ensures.values.2 c.take-value.ensures.value in
@@ -22,8 +23,11 @@ unwrap-requires g c =
 pub returns-clause-base : goal.returns-clause-base
 returns-clause-base g c =
     let place = c.gather-closer.ensures.place in let base = g.M.Turned.base in let entries = g.M.Turned.entries in
-    let back = comes_back base entries c.args.self.table.shared.key c.gather-closer.result.id c.gather-closer.result.me.0 _ _ c.take-value.result
-    (ap (λ m. m.0.holds) place) (ap (λ m. length m.0.accounts) place ∙ (length-map c.args.seats.items account_of ∙ c.requires.all)) c.close_with-closed.ensures.values.2 c.take-value.ensures.value in let same =
+    let back = comes_back base entries c.args.self.table.shared.key c.gather-closer.result.id
+    c.gather-closer.result.me.0 _ _ c.take-value.result
+    (ap (λ m. m.0.holds) place)
+    (ap (λ m. length m.0.accounts) place ∙ (length-map c.args.seats.items account_of ∙ c.requires.all))
+    c.close_with-closed.ensures.values.2 c.take-value.ensures.value in let same =
     same_some back.0 c.unwrap.result (sym back.1 ∙ c.unwrap.ensures) in
     ap base (sym same) ∙ back.2.based
 
@@ -31,8 +35,11 @@ pub returns-clause-seen : goal.returns-clause-seen
 returns-clause-seen g c =
     λ k d l.
     let place = c.gather-closer.ensures.place in let base = g.M.Turned.base in let entries = g.M.Turned.entries in
-    let back = comes_back base entries c.args.self.table.shared.key c.gather-closer.result.id c.gather-closer.result.me.0 _ _ c.take-value.result
-    (ap (λ m. m.0.holds) place) (ap (λ m. length m.0.accounts) place ∙ (length-map c.args.seats.items account_of ∙ c.requires.all)) c.close_with-closed.ensures.values.2 c.take-value.ensures.value in let same =
+    let back = comes_back base entries c.args.self.table.shared.key c.gather-closer.result.id
+    c.gather-closer.result.me.0 _ _ c.take-value.result
+    (ap (λ m. m.0.holds) place)
+    (ap (λ m. length m.0.accounts) place ∙ (length-map c.args.seats.items account_of ∙ c.requires.all))
+    c.close_with-closed.ensures.values.2 c.take-value.ensures.value in let same =
     same_some back.0 c.unwrap.result (sym back.1 ∙ c.unwrap.ensures) in
     let here = ap (λ m. get_elem? m.0.accounts k) place ∙ at_mapped account_of c.args.seats.items k d l in
     let told = (back.2.accounts k (account_of (get_or c.args.seats.items k d)) here).0 in
@@ -42,8 +49,11 @@ pub returns-clause-mine : goal.returns-clause-mine
 returns-clause-mine g c =
     λ k d l.
     let place = c.gather-closer.ensures.place in let base = g.M.Turned.base in let entries = g.M.Turned.entries in
-    let back = comes_back base entries c.args.self.table.shared.key c.gather-closer.result.id c.gather-closer.result.me.0 _ _ c.take-value.result
-    (ap (λ m. m.0.holds) place) (ap (λ m. length m.0.accounts) place ∙ (length-map c.args.seats.items account_of ∙ c.requires.all)) c.close_with-closed.ensures.values.2 c.take-value.ensures.value in let same =
+    let back = comes_back base entries c.args.self.table.shared.key c.gather-closer.result.id
+    c.gather-closer.result.me.0 _ _ c.take-value.result
+    (ap (λ m. m.0.holds) place)
+    (ap (λ m. length m.0.accounts) place ∙ (length-map c.args.seats.items account_of ∙ c.requires.all))
+    c.close_with-closed.ensures.values.2 c.take-value.ensures.value in let same =
     same_some back.0 c.unwrap.result (sym back.1 ∙ c.unwrap.ensures) in
     let seat = get_or c.args.seats.items k d in
     let here = ap (λ m. get_elem? m.0.accounts k) place ∙ at_mapped account_of c.args.seats.items k d l in
@@ -52,7 +62,10 @@ returns-clause-mine g c =
 pub returns-clause-past : goal.returns-clause-past
 returns-clause-past g c =
     let place = c.gather-closer.ensures.place in let base = g.M.Turned.base in let entries = g.M.Turned.entries in
-    let back = comes_back base entries c.args.self.table.shared.key c.gather-closer.result.id c.gather-closer.result.me.0 _ _ c.take-value.result
-    (ap (λ m. m.0.holds) place) (ap (λ m. length m.0.accounts) place ∙ (length-map c.args.seats.items account_of ∙ c.requires.all)) c.close_with-closed.ensures.values.2 c.take-value.ensures.value in let same =
+    let back = comes_back base entries c.args.self.table.shared.key c.gather-closer.result.id
+    c.gather-closer.result.me.0 _ _ c.take-value.result
+    (ap (λ m. m.0.holds) place)
+    (ap (λ m. length m.0.accounts) place ∙ (length-map c.args.seats.items account_of ∙ c.requires.all))
+    c.close_with-closed.ensures.values.2 c.take-value.ensures.value in let same =
     same_some back.0 c.unwrap.result (sym back.1 ∙ c.unwrap.ensures) in
     let past = back.2.past in (past.0, ap entries (sym same) ∙ past.1, past.2)
