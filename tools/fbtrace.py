@@ -181,6 +181,9 @@ def read_event(line):
     return event
 
 
+NO_COPY = ("I", (0, 0, 0, 0))
+
+
 class Machine:
     """The configuration between two events."""
 
@@ -194,13 +197,15 @@ class Machine:
         self.place = {board.place: 0 for board in setup.boards}
         self.answers = {board.place: hashlib.blake2b() for board in setup.boards}
 
+    def row(self, board, line):
+        """The state and the words of a board's copy of a line."""
+        return self.rows.get((board, line), NO_COPY)
+
     def state(self, board, line):
-        row = self.rows.get((board, line))
-        return row[0] if row else "I"
+        return self.row(board, line)[0]
 
     def words(self, board, line):
-        row = self.rows.get((board, line))
-        return row[1] if row else [0, 0, 0, 0]
+        return self.row(board, line)[1]
 
     def present(self, board):
         """The next access of a board, or none."""
@@ -324,12 +329,12 @@ class Trace:
 
     def lines(self):
         """The lines of memory that events name, in order."""
-        found = set()
+        found, words = set(), set()
         with open(self.path, encoding="ascii") as trace:
             while text := "".join(trace.readlines(1 << 20)):
-                found.update(map(int, re.findall(r"^[cd].* line (\d+) ", text, re.M)))
-                found.update(int(address) >> 2 for address in re.findall(r"^local .* done \w+ (\d+)", text, re.M))
-        return sorted(found)
+                found.update(re.findall(r"^[cd]\w+ \d+ (?:\w+ )?line (\d+)", text, re.M))
+                words.update(re.findall(r"^local .* done \w+ (\d+)", text, re.M))
+        return sorted({*map(int, found), *(int(address) >> 2 for address in words)})
 
     def __iter__(self):
         apply = self.machine.apply
