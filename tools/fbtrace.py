@@ -7,6 +7,7 @@ here. What is kept does not grow with the trace, but for the replies of one boar
 import functools
 import hashlib
 import itertools
+import os
 import pathlib
 import re
 import subprocess
@@ -357,9 +358,9 @@ class Trace:
         if own != answers:
             board = min(place for place in own if own[place] != answers[place])
             raise Unfit(f"{self.path}: the answers of board {board} are not those that replay prints")
-        for ours, theirs in zip(self.machine.ending(), rest + [b""] * 2**20):
-            if ours.encode() != theirs:
-                raise Unfit(f"{self.path}: {ours.strip()} is computed, and replay prints {text_of(theirs)}")
+        for ours, theirs in itertools.zip_longest(self.machine.ending(), rest, fillvalue=""):
+            if ours.encode() != (theirs or b""):
+                raise Unfit(f"{self.path}: {text_of(ours.encode())} is computed, and replay prints {text_of(theirs)}")
 
 
 def text_of(line):
@@ -368,7 +369,7 @@ def text_of(line):
 
 def read(setup_path, trace_path, program=PROGRAM):
     """The setup and the trace of two files."""
-    with open(setup_path, encoding="utf-8", errors="replace") as file:
+    with open(setup_path, encoding="utf-8", errors="replace", newline="") as file:
         text = file.read()
     setup = read_setup(text)
     return setup, Trace(setup, trace_path, program, setup_path)
@@ -392,14 +393,17 @@ def numbers(text):
 def run_main(name, main):
     """Runs a tool: a text that is unfit is one line on standard error and status 2."""
     try:
-        sys.exit(main())
+        status = main()
+        sys.stdout.flush()
+        sys.exit(status)
     except Unfit as unfit:
         sys.stderr.write(f"{name}: {unfit}\n")
     except FileNotFoundError as error:
         sys.stderr.write(f"{name}: {error.filename}: no such file\n")
     except BrokenPipeError:
-        sys.stderr.close()
-        sys.exit(2)
+        os.dup2(os.open(os.devnull, os.O_WRONLY), sys.stdout.fileno())
+    except KeyboardInterrupt:
+        sys.stderr.write(f"{name}: interrupted\n")
     except OSError as error:
         sys.stderr.write(f"{name}: {error.filename or ''}: {error.strerror}\n")
     except UnicodeDecodeError:
