@@ -4,12 +4,17 @@ The words and states after each event are computed here once more, after docs/MO
 of a trace: `read` asks it first, and refuses a trace whose ending is not the one that replay prints, or that is computed
 here. What is kept does not grow with the trace, but for the replies of one board after another, which are hashed."""
 
+import functools
 import hashlib
+import itertools
+import os
 import pathlib
 import re
 import subprocess
 import sys
 
+# How many readings of lines are kept. Most lines of a long trace come again within some thousand.
+KEPT = 4096
 PROGRAM = pathlib.Path(__file__).resolve().parent.parent / "futurebus"
 
 STATES = ("M", "O", "E", "S", "I")
@@ -54,47 +59,43 @@ class Setup:
 
 
 def free_text(text):
-    """The words of each line of a free text that has words, with its number."""
-    for number, line in enumerate(text.split("\n"), 1):
-        words = line.split("#")[0].replace("\t", " ").replace("\r", " ").split(" ")
-        words = [word for word in words if word]
-        if words:
-            yield number, words
+    """The words of each line of a free text that has words."""
+    for line in text.split("\n"):
+        if words := line.partition("#")[0].split():
+            yield words
 
 
-def read_tables(lines):
-    """The tables of a text, and the lines that are of no table."""
-    tables, others, cells = {}, [], None
-    for number, words in lines:
-        if cells is not None:
-            if words == ["end"]:
-                cells = None
+def outside_tables(lines, tables):
+    """The lines that are of no table, one after another. The tables that stand between them are put into `tables`."""
+    cells = None
+    for words in lines:
+        if cells is None:
+            if words[0] == "table":
+                cells = tables[words[1]] = {}
             else:
-                alternatives = " ".join(words[3:]).split(" | ")
-                cells[words[0], words[1]] = alternatives
-        elif words[0] == "table":
-            cells = tables[words[1]] = {}
+                yield words
+        elif words == ["end"]:
+            cells = None
         else:
-            others.append((number, words))
-    return tables, others
+            cells[words[0], words[1]] = " ".join(words[3:]).split(" | ")
 
 
 def read_setup(text):
     """The setup of a text. The text is one that the program reads; what it would refuse is not looked at again."""
+    memory, tables, boards = None, {}, []
     try:
-        tables, lines = read_tables(free_text(text))
-        memory, boards = None, []
-        for number, words in lines:
-            if words[0] == "memory":
-                memory = [[0] * 4 for _ in range(int(words[1]))]
-            elif words[0] == "word":
-                memory[int(words[1]) // 4][int(words[1]) % 4] = int(words[2])
-            elif words[0] == "board":
-                boards.append(Board(words))
-            elif words[0] in ACCESSES:
+        for words in outside_tables(free_text(text), tables):
+            kind = words[0]
+            if kind in ACCESSES:
                 boards[-1].script.append(" ".join(words))
-            elif words[0] != "end":
-                raise ValueError(words[0])
+            elif kind == "memory":
+                memory = [[0] * 4 for _ in range(int(words[1]))]
+            elif kind == "word":
+                memory[int(words[1]) // 4][int(words[1]) % 4] = int(words[2])
+            elif kind == "board":
+                boards.append(Board(words))
+            elif kind != "end":
+                raise ValueError(kind)
     except (ValueError, IndexError, TypeError):
         raise Unfit("the setup cannot be read: `futurebus show` says where") from None
     if memory is None or not boards:
@@ -102,35 +103,50 @@ def read_setup(text):
     return Setup(memory, tables, boards)
 
 
+# The fields of each kind of event, in the order in which tools tell them.
+FIELDS = {
+    "local": ("kind", "board", "line", "before", "after", "access", "address", "value"),
+    "drop": ("kind", "board", "line", "before"),
+    "raise": ("kind", "board"),
+    "grant": ("kind", "board", "winner", "lines", "rounds"),
+    "connect": ("kind", "board", "line", "event", "result", "answers"),
+    "data": ("kind", "board", "line", "access", "address", "value", "event", "source", "takers", "states"),
+}
+
+
 class Event:
-    """An event of a trace. Which fields it has depends on its kind."""
+    """An event of a trace. Nothing changes it once it is read, since a line that comes again gives the same one. It has the
+    fields of its kind, and `line` and `access`, which may be none; where there is an access, `done` is what the trace says
+    of it. A data line seldom comes again, but what it says before its access does: `move` is the event of that part."""
 
-    __slots__ = ("kind", "board", "line", "before", "after", "access", "address", "value", "winner", "lines", "rounds", "event", "result", "answers", "source", "takers", "states")
+    __slots__ = ("kind", "board", "line", "before", "after", "access", "address", "value", "winner", "lines", "rounds", "event", "result", "answers", "source", "takers", "states", "done", "move")
 
-    def done(self):
-        """The access that was done, as the trace says it."""
-        if self.access == "evict":
-            return "evict"
-        if self.access == "read":
-            return f"read {self.address} = {self.value}"
-        return f"write {self.address} {self.value}" if self.access == "write" else f"{self.access} {self.address}"
+    def __init__(self, kind, board):
+        self.kind, self.board, self.line, self.access = kind, board, None, None
 
-
-def put_access(event, words, at):
-    kind = event.access = words[at]
-    event.address = None if kind == "evict" else int(words[at + 1])
-    event.value = int(words[-1]) if kind in ("read", "write") else None
+    def put_access(self, done):
+        words = done.split(" ")
+        self.done, self.access = done, words[0]
+        self.address = None if done == "evict" else int(words[1])
+        self.value = int(words[-1]) if self.access in ("read", "write") else None
 
 
-def read_event(line):
-    """The event of a line of a trace that replay accepts."""
-    words, event = line.split(" "), Event()
-    kind = event.kind = words[0]
-    event.board = int(words[1])
-    event.line = event.access = None
+def by_place(words):
+    """The boards of words such as `2=S`, and what stands behind them."""
+    return {int(place): text for place, _, text in (word.partition("=") for word in words)}
+
+
+@functools.lru_cache(KEPT)
+def read_short(line):
+    """The event of a line that is no data line, or none for one that is of no event."""
+    words = line.split()
+    kind = words[0] if words else ""
+    if kind not in FIELDS:
+        return None
+    event = Event(kind, int(words[1]))
     if kind == "local":
         event.before, event.after = words[2], words[4]
-        put_access(event, words, 6)
+        event.put_access(" ".join(words[6:]))
         event.line = event.address >> 2
     elif kind == "drop":
         event.line, event.before = int(words[3]), words[5]
@@ -138,23 +154,35 @@ def read_event(line):
         event.winner, event.lines, event.rounds = int(words[3]), int(words[5]), int(words[7])
     elif kind == "connect":
         event.event, event.line, event.result = words[2], int(words[4]), words[6]
-        answers = event.answers = {}
-        if words[8] != "none":
-            for word in words[8:]:
-                place, _, answer = word.partition("=")
-                answers[int(place)] = answer
-    elif kind == "data":
-        event.event, event.line, event.source = words[2], int(words[4]), words[6]
-        event.takers = () if words[8] == "none" else words[8].split(",")
-        cut = words.index("done", 10)
-        states = event.states = {}
-        for word in words[10:cut]:
-            place, _, state = word.partition("=")
-            states[int(place)] = state
-        put_access(event, words, cut + 1)
-    elif kind != "raise":
-        raise ValueError(kind)
+        event.answers = by_place(words[8:] if words[8] != "none" else [])
     return event
+
+
+@functools.lru_cache(KEPT)
+def read_move(text):
+    """The event of a data line without its access, read from what stands before `done`."""
+    words = text.split(" ")
+    event = Event("data", int(words[1]))
+    event.event, event.line, event.source = words[2], int(words[4]), words[6]
+    event.takers = () if words[8] == "none" else tuple(words[8].split(","))
+    event.states = by_place(words[10:])
+    return event
+
+
+def read_event(line):
+    """The event of a line of a trace that replay accepts, or none for a line that is of no event."""
+    if not line.startswith("data "):
+        return read_short(line)
+    text, _, done = line.partition(" done ")
+    move = read_move(text)
+    event = Event("data", move.board)
+    event.move, event.line, event.event = move, move.line, move.event
+    event.source, event.takers, event.states = move.source, move.takers, move.states
+    event.put_access(done.rstrip("\n"))
+    return event
+
+
+NO_COPY = ("I", (0, 0, 0, 0))
 
 
 class Machine:
@@ -170,13 +198,15 @@ class Machine:
         self.place = {board.place: 0 for board in setup.boards}
         self.answers = {board.place: hashlib.blake2b() for board in setup.boards}
 
+    def row(self, board, line):
+        """The state and the words of a board's copy of a line."""
+        return self.rows.get((board, line), NO_COPY)
+
     def state(self, board, line):
-        row = self.rows.get((board, line))
-        return row[0] if row else "I"
+        return self.row(board, line)[0]
 
     def words(self, board, line):
-        row = self.rows.get((board, line))
-        return row[1] if row else [0, 0, 0, 0]
+        return self.row(board, line)[1]
 
     def present(self, board):
         """The next access of a board, or none."""
@@ -300,23 +330,23 @@ class Trace:
 
     def lines(self):
         """The lines of memory that events name, in order."""
-        found = set()
+        found, words = set(), set()
         with open(self.path, encoding="ascii") as trace:
             while text := "".join(trace.readlines(1 << 20)):
-                found.update(map(int, re.findall(r"^[cd].* line (\d+) ", text, re.M)))
-                found.update(int(address) >> 2 for address in re.findall(r"^local .* done \w+ (\d+)", text, re.M))
-        return sorted(found)
+                found.update(re.findall(r"^[cd]\w+ \d+ (?:\w+ )?line (\d+)", text, re.M))
+                words.update(re.findall(r"^local .* done \w+ (\d+)", text, re.M))
+        return sorted({*map(int, found), *(int(address) >> 2 for address in words)})
 
     def __iter__(self):
-        machine = self.machine
+        apply = self.machine.apply
         with open(self.path, encoding="ascii") as trace:
             for line in trace:
-                if line == "end\n" or line.startswith(("sound ", "unsound ")):
+                event = read_event(line)
+                if event is None:
                     break
                 self.number += 1
-                event = read_event(line[:-1])
                 yield event
-                machine.apply(event)
+                apply(event)
         self.check()
 
     def check(self):
@@ -328,9 +358,9 @@ class Trace:
         if own != answers:
             board = min(place for place in own if own[place] != answers[place])
             raise Unfit(f"{self.path}: the answers of board {board} are not those that replay prints")
-        for ours, theirs in zip(self.machine.ending(), rest + [b""] * 2**20):
-            if ours.encode() != theirs:
-                raise Unfit(f"{self.path}: {ours.strip()} is computed, and replay prints {text_of(theirs)}")
+        for ours, theirs in itertools.zip_longest(self.machine.ending(), rest, fillvalue=""):
+            if ours.encode() != (theirs or b""):
+                raise Unfit(f"{self.path}: {text_of(ours.encode())} is computed, and replay prints {text_of(theirs)}")
 
 
 def text_of(line):
@@ -339,10 +369,16 @@ def text_of(line):
 
 def read(setup_path, trace_path, program=PROGRAM):
     """The setup and the trace of two files."""
-    with open(setup_path, encoding="utf-8", errors="replace") as file:
+    with open(setup_path, encoding="utf-8", errors="replace", newline="") as file:
         text = file.read()
     setup = read_setup(text)
     return setup, Trace(setup, trace_path, program, setup_path)
+
+
+def write(out, lines):
+    """Writes lines in blocks, since a call for each costs more than the line."""
+    while block := "".join(itertools.islice(lines, 1000)):
+        out.write(block)
 
 
 def numbers(text):
@@ -357,14 +393,17 @@ def numbers(text):
 def run_main(name, main):
     """Runs a tool: a text that is unfit is one line on standard error and status 2."""
     try:
-        sys.exit(main())
+        status = main()
+        sys.stdout.flush()
+        sys.exit(status)
     except Unfit as unfit:
         sys.stderr.write(f"{name}: {unfit}\n")
     except FileNotFoundError as error:
         sys.stderr.write(f"{name}: {error.filename}: no such file\n")
     except BrokenPipeError:
-        sys.stderr.close()
-        sys.exit(2)
+        os.dup2(os.open(os.devnull, os.O_WRONLY), sys.stdout.fileno())
+    except KeyboardInterrupt:
+        sys.stderr.write(f"{name}: interrupted\n")
     except OSError as error:
         sys.stderr.write(f"{name}: {error.filename or ''}: {error.strerror}\n")
     except UnicodeDecodeError:
