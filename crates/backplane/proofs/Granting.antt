@@ -1,7 +1,7 @@
 -- What the facts of a grant tell together: it may happen.
 use Rattle.std.proofs.Common.{Bool, List, [], ap, arith, length, refl, sym, true, ℕ, ◌∙◌, ◌∷◌, ◌≡◌, ◌&&◌, ◌==◌}
 use Rattle.std.proofs.lemmas.Bool.{and_from, and_parts, eq-eqb, eqb-true}
-use Rattle.std.specs.Prelude.{◌↔◌}
+use Rattle.std.specs.Prelude.{◌↔◌, IsTrue}
 use Rattle.bus_model.specs.Settling.{highest, settled_lines, settled_rounds}
 use Rattle.arbiter.specs.Raised.{competitors}
 use Rattle.board.specs.Rack.{setup_of}
@@ -10,7 +10,7 @@ use Rattle.bus_model.specs.Setup.{Setup, number_of}
 use Rattle.bus_model.specs.Steps.{CanGrant}
 use Rattle.backplane.specs.declared.parts.Parts.{Parts}
 use Rattle.backplane.specs.Parts.{IsPartOf, PartsShow, phase_of}
-use Rattle.backplane.specs.Permits.{AreOfOneSetup, HasRaised, Wins, does_settle}
+use Rattle.backplane.specs.Permits.{AreOfOneSetup, HasRaised, does_settle}
 use Rattle.backplane.proofs.Deciding.{all_of, none_left, one_more}
 use Rattle.backplane.proofs.Grants.{competitors-shown, raised-shown, some-competes}
 use Rattle.backplane.proofs.Requesting.{raised_within}
@@ -61,31 +61,35 @@ module _ (setup : Setup) (c : Configuration) (parts : Parts) (shows : PartsShow 
   some_compete : (board : ℕ) → is_raised c.boards board ≡ true → competitors parts.requests ≡ [] → ⊥
   some_compete board h = let r = requesting board h in some-competes parts.requests board r.there.low r.there.requests r.raised
 
+  -- A board has raised a request, and the contest shows its number, with these lines and in this many rounds.
+  abbrev Won : ℕ → ℕ → ℕ → Type 0
+  Won winner lines rounds = HasRaised parts winner × IsTrue (does_settle (competitors parts.requests) (number_of (setup_of parts.rack) winner) lines rounds)
+
   pub grant_told : (by winner lines rounds : ℕ) (idle raised wins : Bool)
-      → ((idle ≡ true) ↔ (phase_of parts.phase ≡ Idle)) → ((raised ≡ true) ↔ HasRaised parts by) → ((wins ≡ true) ↔ Wins parts winner lines rounds)
+      → ((idle ≡ true) ↔ (phase_of parts.phase ≡ Idle)) → ((raised ≡ true) ↔ HasRaised parts by) → ((wins ≡ true) ↔ Won winner lines rounds)
       → (all_of (idle ∷ raised ∷ wins ∷ []) ≡ true) ↔ CanGrant setup c by winner lines rounds
   grant_told by winner lines rounds idle raised wins i r w = (λ h. build (facts.0 h), λ can. facts.1 (back can))
     where
-      facts : (all_of (idle ∷ raised ∷ wins ∷ []) ≡ true) ↔ ((phase_of parts.phase ≡ Idle) × (HasRaised parts by × (Wins parts winner lines rounds × Unit {0})))
+      facts : (all_of (idle ∷ raised ∷ wins ∷ []) ≡ true) ↔ ((phase_of parts.phase ≡ Idle) × (HasRaised parts by × (Won winner lines rounds × Unit {0})))
       facts = one_more idle (raised ∷ wins ∷ []) _ _ i (one_more raised (wins ∷ []) _ _ r (one_more wins [] _ _ w none_left))
 
-      build : (phase_of parts.phase ≡ Idle) × (HasRaised parts by × (Wins parts winner lines rounds × Unit {0})) → CanGrant setup c by winner lines rounds
+      build : (phase_of parts.phase ≡ Idle) × (HasRaised parts by × (Won winner lines rounds × Unit {0})) → CanGrant setup c by winner lines rounds
       build f =
           let won = f.1.1.0 in
-          let s = settles (competitors parts.requests) (number_of (setup_of parts.rack) winner) lines rounds won.settles in
+          let s = settles (competitors parts.requests) (number_of (setup_of parts.rack) winner) lines rounds won.1 in
           let compete = competitors-shown setup c parts shows (sym long) in
           record {
             idle = sym shows.phase ∙ f.0;
             by_raised = requested by f.1.0;
             wins = record {
-              raised = requested winner won.raised;
+              raised = requested winner won.0;
               number_highest = sym (number_shown setup c parts shows winner) ∙ s.number_highest ∙ ap highest compete;
               lines_settled = s.lines_settled ∙ ap settled_lines compete;
               rounds_settled = s.rounds_settled ∙ ap settled_rounds compete;
             };
           }
 
-      back : CanGrant setup c by winner lines rounds → (phase_of parts.phase ≡ Idle) × (HasRaised parts by × (Wins parts winner lines rounds × Unit {0}))
+      back : CanGrant setup c by winner lines rounds → (phase_of parts.phase ≡ Idle) × (HasRaised parts by × (Won winner lines rounds × Unit {0}))
       back can =
           let compete = sym (competitors-shown setup c parts shows (sym long)) in
           let s : Settles (competitors parts.requests) (number_of (setup_of parts.rack) winner) lines rounds = record {
@@ -97,10 +101,10 @@ module _ (setup : Setup) (c : Configuration) (parts : Parts) (shows : PartsShow 
             (
               requesting by can.by_raised,
               (
-                record {
-                  raised = requesting winner can.wins.raised;
-                  settles = settled (competitors parts.requests) (number_of (setup_of parts.rack) winner) lines rounds (some_compete by can.by_raised) s;
-                },
+                (
+                  requesting winner can.wins.raised,
+                  settled (competitors parts.requests) (number_of (setup_of parts.rack) winner) lines rounds (some_compete by can.by_raised) s,
+                ),
                 tt,
               ),
             ),

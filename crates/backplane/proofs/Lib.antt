@@ -23,3 +23,4 @@ pub mod Keeping
 pub mod Moving
 pub mod Reading
 pub mod Opening
+pub mod Few

@@ -1,5 +1,5 @@
 -- The machine at its opening.
-use Rattle.std.proofs.Common.{◌≡◌, ℕ, zero, suc, ◌+◌, ◌-◌, ◌*◌, ◌<◌, ◌≤◌, false, List, [], ◌∷◌, ◌++◌, map, length, take, get_or, refl, ap, sym, subst, ◌∙◌, arith}
+use Rattle.std.proofs.Common.{◌≡◌, ℕ, zero, suc, ◌+◌, ◌-◌, ◌<◌, ◌≤◌, false, List, [], ◌∷◌, ◌++◌, map, length, take, get_or, refl, ap, sym, subst, ◌∙◌, arith}
 use Rattle.std.specs.Prelude.{All, replicate, slice_index_or}
 use Rattle.std.specs.List.{AllByRecursion}
 use Rattle.std.proofs.lemmas.List.{take_more, take_all}
@@ -7,7 +7,7 @@ use Rattle.bus_signals.specs.declared.Access.{Access}
 use Rattle.class_relation.specs.Tables.{Table, empty_table}
 use Rattle.table_check.specs.Accepted.{InClass, faults}
 use Rattle.bus_model.specs.Places.{places_from}
-use Rattle.bus_model.specs.Setup.{Setup, BoardSpec, BoardFits, WellFormed, AllInClass, line_count, access_count}
+use Rattle.bus_model.specs.Setup.{Setup, BoardSpec, BoardFits, WellFormed, AllInClass, line_count}
 use Rattle.bus_model.specs.Configuration.{Progress, fresh, opening, lines_of_words}
 use Rattle.bus_model.specs.Entries.{Entry, entries_of}
 use Rattle.arbiter.specs.Contests.{IsContest, IsNumber}
@@ -21,6 +21,7 @@ use Rattle.backplane.specs.declared.parts.Parts.{Parts}
 use Rattle.backplane.specs.declared.phase.Phase.TheVariants.{Idle as IdlePhase}
 use Rattle.backplane.specs.Assembling.{FirstRefused, IsRefused, RefusedAt, script_lengths, table_at}
 use Rattle.backplane.specs.Histories.{Histories, HistoriesKeep, empty_histories}
+use Rattle.backplane.specs.Needs.{needed}
 use Rattle.backplane.specs.Parts.{PartsShow, MarksFit}
 use Rattle.backplane.specs.Standing.{Stands}
 
@@ -169,13 +170,13 @@ empty-lists k (x ∷ xs) [] l = absurd (omega arith)
 empty-lists k (x ∷ xs) (s ∷ scripts) l = ap (λ (es : List (List Entry)). [] ∷ es) (empty-lists (suc k) xs scripts (omega arith))
 
 -- The machine of a setup stands at its opening.
-pub stands-open : (setup : Setup) (capacity accesses : ℕ) (p : Parts) (h : Histories) (lengths : List ℕ) → WellFormed setup → AllByRecursion InClass setup.tables → accesses ≡ access_count setup → capacity ≡ 8 * accesses
+pub stands-open : (setup : Setup) (capacity : ℕ) (p : Parts) (h : Histories) (lengths : List ℕ) → WellFormed setup → AllByRecursion InClass setup.tables → capacity ≡ (needed setup).events
     → PartsShow setup (opening setup) p → lengths ≡ script_lengths setup → h ≡ empty_histories lengths → Stands setup [] capacity p h
-stands-open setup capacity accesses p h lengths well accepted counted room shows is made = record {
+stands-open setup capacity p h lengths well accepted room shows is made = record {
   fits = well;
   accepted = recursion-all InClass setup.tables accepted;
   run = refl;
-  room = omega (arith, counted, room);
+  room = room;
   parts = shows;
   histories = subst (λ (x : Histories). HistoriesKeep setup [] x) (sym (made ∙ ap empty_histories is)) (record { entries = empty-lists 1 setup.boards setup.scripts well.scripts; rooms = refl });
 }

@@ -142,7 +142,7 @@ follows setup events later capacity more p next h after_h event stands can is sa
       fits = stands.fits;
       accepted = stands.accepted;
       run = run-push setup events event stands.run can;
-      room = let room = stands.room in omega (arith, room, same);
+      room = same ∙ stands.room;
       parts = subst (λ (x : Configuration). PartsShow setup x next) (sym (after_all-push (opening setup) events event)) shows;
       histories = keeps;
     })

@@ -4,7 +4,7 @@ use Rattle.bus_signals.specs.declared.Access.{Access}
 use Rattle.bus_signals.specs.declared.BusEvent.{BusEvent}
 use Rattle.class_relation.specs.Actions.{has_answer}
 use Rattle.class_relation.specs.Tables.{answers_of}
-use Rattle.bus_model.specs.Setup.{Setup, WellFormed, table_of, number_of}
+use Rattle.bus_model.specs.Setup.{Setup, WellFormed, table_of}
 use Rattle.bus_model.specs.Events.{Event, Answer, Transaction}
 use Rattle.bus_model.specs.Configuration.{Configuration, Row, present_access, state_at}
 use Rattle.bus_model.specs.Steps.{Can}
@@ -12,7 +12,7 @@ use Rattle.bus_model.specs.Soundness.{Sound}
 use Rattle.bus_model.specs.Settling.{highest, settled_lines, settled_rounds}
 use Rattle.backplane.specs.declared.parts.Parts.{Parts}
 use Rattle.backplane.specs.Parts.{PartsShow, IsPartOf}
-use Rattle.arbiter.specs.Raised.{competitors, has_raised}
+use Rattle.arbiter.specs.Raised.{has_raised}
 use Rattle.board.specs.Rack.{Rack, setup_of}
 use Rattle.connect_phase.specs.Answering.{is_other_holder}
 
@@ -73,8 +73,3 @@ does_settle (n ∷ rest) number lines rounds =
 pub record HasRaised (parts : Parts) (board : ℕ) : Type 0 where
   pub there : IsPartOf parts board
   pub raised : IsTrue (has_raised parts.requests board)
-
--- A board has raised a request, and the contest shows its number, with these lines and in this many rounds.
-pub record Wins (parts : Parts) (winner lines rounds : ℕ) : Type 0 where
-  pub raised : HasRaised parts winner
-  pub settles : IsTrue (does_settle (competitors parts.requests) (number_of (setup_of parts.rack) winner) lines rounds)

@@ -14,6 +14,7 @@ ghost use Rattle.backplane.specs.Assembling.{IsRefused, RefusedAt, script_length
 
 use crate::histories::Histories;
 use crate::machine::Machine;
+use crate::needs::need;
 use crate::parts::Parts;
 use crate::phase::Phase;
 use arbiter::Requests;
@@ -170,7 +171,7 @@ fn parts(alloc: Global, setup: &Setup, tables: Vec<Accepted>) -> Result<Parts, N
     })
 }
 
-/// The machine of a setup, at its opening. All memory of its life is taken here.
+/// The machine of a setup, at its opening. All memory of its life is taken here, and `need` tells how much.
 pub fn assemble(alloc: Global, setup: Setup) -> Result<Machine, AssembleFault>
     ensures opening { IfOk result (λ machine. machine ≡ opened setup) }
     ensures accepted { IfOk result (λ machine. AllInClass setup) }
@@ -189,7 +190,7 @@ pub fn assemble(alloc: Global, setup: Setup) -> Result<Machine, AssembleFault>
     let Ok(histories) = Histories::new(alloc, &lengths) else {
         return Err(AssembleFault::NoMemory);
     };
-    let Ok(journal) = Vec::with_capacity(alloc, 8 * setup.accesses() as usize) else {
+    let Ok(journal) = Vec::with_capacity(alloc, need(&setup).events as usize) else {
         return Err(AssembleFault::NoMemory);
     };
     Ok(Machine::of(setup, parts, journal, histories))

@@ -5,11 +5,15 @@ mod assembling;
 mod histories;
 mod machine;
 mod moved;
+mod needs;
 mod parts;
 mod permits;
 mod phase;
 mod plan;
+mod sizes;
 
 pub use assembling::{AssembleFault, assemble};
 pub use machine::{Machine, NotARun};
 pub use moved::{Moved, Why};
+pub use needs::need;
+pub use sizes::Need;

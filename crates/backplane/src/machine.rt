@@ -13,6 +13,8 @@ use std::marker::Model;
 mod advancing;
 mod applying;
 mod effects;
+#[cfg(test)]
+mod evicted;
 mod reading;
 mod rounds;
 

@@ -12,7 +12,8 @@ use std::test::Fail;
 use std::thread::Threads;
 use trace_text::read_event;
 
-fn words(alloc: Global, text: &str) -> Result<Vec<String>, AllocError> {
+/// The words of a command line.
+pub fn words(alloc: Global, text: &str) -> Result<Vec<String>, AllocError> {
     let mut words = Vec::new(alloc);
     for word in text.split(' ') {
         words.push(String::from_str(alloc, word)?)?;
@@ -21,7 +22,7 @@ fn words(alloc: Global, text: &str) -> Result<Vec<String>, AllocError> {
 }
 
 /// A file with its name.
-fn file(alloc: Global, name: &str, text: &str) -> Result<(String, Vec<u8>), AllocError> {
+pub fn file(alloc: Global, name: &str, text: &str) -> Result<(String, Vec<u8>), AllocError> {
     Ok((
         String::from_str(alloc, name)?,
         text.as_bytes().to_vec(alloc)?,

@@ -38,7 +38,7 @@ fn text(alloc: Global, memory: &str, boards: &str) -> Result<String, Fail> {
 }
 
 /// The setup with these lines before and after its tables.
-fn setup(alloc: Global, memory: &str, boards: &str) -> Result<Setup, Fail> {
+pub fn setup(alloc: Global, memory: &str, boards: &str) -> Result<Setup, Fail> {
     let text = text(alloc, memory, boards)?;
     if text.len() > 10_000 {
         return Err(Fail::from("a long setup"));
@@ -71,16 +71,23 @@ pub fn machine(alloc: Global, memory: &str, boards: &str) -> Result<Machine, Fai
     }
 }
 
+/// The memory of a board that writes a word and one that reads it.
+const WORD_5: &str = "memory 2\nword 5 100\n";
+
+/// Board 1 writes a word that board 2 reads.
+const WRITER_AND_READER: &str = "board 1 number 10 table cb cached 1 1 choose first\nwrite 5 7\n\
+    board 2 number 9 table un plain choose first\nread 5\nend\n";
+
 /// A machine on which board 1 writes a word that board 2 reads.
 pub fn writer_and_reader(alloc: Global) -> Result<Machine, Fail>
     ensures { IfOk result (λ machine. machine.journal ≡ []) }
 {
-    machine(
-        alloc,
-        "memory 2\nword 5 100\n",
-        "board 1 number 10 table cb cached 1 1 choose first\nwrite 5 7\n\
-         board 2 number 9 table un plain choose first\nread 5\nend\n",
-    )
+    machine(alloc, WORD_5, WRITER_AND_READER)
+}
+
+/// The text of the setup in which board 1 writes a word that board 2 reads.
+pub fn writer_and_reader_text(alloc: Global) -> Result<String, Fail> {
+    text(alloc, WORD_5, WRITER_AND_READER)
 }
 
 /// An uncached board, one that writes through and two that copy back, on one line. Each writes a counter of its own twice,

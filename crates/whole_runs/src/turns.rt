@@ -1,7 +1,7 @@
 //! Machines that take turns, and what they show.
 
-use crate::machines::{assembled, has_board, machine};
-use backplane::{AssembleFault, Machine, Moved, Why};
+use crate::machines::{assembled, has_board, machine, setup};
+use backplane::{AssembleFault, Machine, Moved, Need, Why, need};
 use bus_signals::{BoardNo, LineNo};
 use moesi_state::State;
 use std::test::Fail;
@@ -110,13 +110,26 @@ fn the_highest_number_is_granted_the_bus(rt: HostRuntime) -> Result<(), Fail> {
     Ok(())
 }
 
+/// A board with one frame that writes a word of line 0 and then one of line 1.
+const TWO_WRITES: &str =
+    "board 1 number 3 table cb cached 1 1 choose first\nwrite 0 1\nwrite 4 2\nend\n";
+
+#[test]
+fn what_a_run_needs_is_told_from_its_setup(rt: HostRuntime) -> Result<(), Fail> {
+    let setup = setup(rt.alloc(), "memory 2\n", TWO_WRITES)?;
+    let wanted = Need {
+        events: 16,
+        replies: 2,
+        frames: 1,
+    };
+    assert_eq!(rt; need(&setup), wanted);
+    Ok(())
+}
+
+// The second write takes eight of the events.
 #[test]
 fn an_owned_victim_is_flushed_first(rt: HostRuntime) -> Result<(), Fail> {
-    let mut machine = machine(
-        rt.alloc(),
-        "memory 2\n",
-        "board 1 number 3 table cb cached 1 1 choose first\nwrite 0 1\nwrite 4 2\nend\n",
-    )?;
+    let mut machine = machine(rt.alloc(), "memory 2\n", TWO_WRITES)?;
     assert_eq!(rt;
         turns(&mut machine, &[1, 1, 1, 1, 1, 1, 1, 1, 1, 1, 1, 1]),
         12

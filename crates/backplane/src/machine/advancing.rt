@@ -1,7 +1,6 @@
 //! A turn of a board.
 
-ghost use Rattle.std.specs.Prelude.{◌≡◌, ◌*◌, ◌≤◌, false, length};
-ghost use Rattle.bus_model.specs.Setup.{access_count};
+ghost use Rattle.std.specs.Prelude.{◌≡◌, ◌≤◌, false, length};
 ghost use Rattle.bus_model.specs.Events.{Event};
 ghost use Rattle.bus_model.specs.Configuration.{is_connected};
 ghost use Rattle.bus_model.specs.Turns.{Did};
@@ -10,6 +9,7 @@ ghost use Rattle.bus_model.specs.Entries.{entries, Legal};
 ghost use Rattle.bus_model.specs.Soundness.{Sound};
 ghost use Rattle.backplane.specs.Machine.{configuration, IsBoard, MayHappen};
 ghost use Rattle.backplane.specs.Moves.{told, moved, turn_of};
+ghost use Rattle.backplane.specs.Needs.{needed, reply_count};
 ghost use Rattle.backplane.specs.Plans.{planned};
 
 use crate::machine::Machine;
@@ -83,10 +83,13 @@ impl Machine {
         ensures run { Run self.new.setup self.new.journal (configuration self.new) }
         ensures sound { Sound self.new.setup self.new.journal (configuration self.new) }
         ensures legal { Legal self.new.setup.memory (entries self.new.journal) }
-        ensures bounded { length self.new.journal ≤ 8 * access_count self.new.setup }
+        ensures events { length self.new.journal ≤ (needed self.new.setup).events }
+        ensures replies { reply_count self.new ≤ (needed self.new.setup).replies }
+        ensures rows { length (configuration self.new).rows ≤ (needed self.new.setup).frames }
     {
         let moved = self.turn(board);
         let _journal = self.journal();
+        self.within_need();
         moved
     }
 

@@ -9,6 +9,7 @@ ghost use Rattle.bus_model.specs.Runs.{Run, Complete};
 ghost use Rattle.bus_model.specs.Entries.{entries, entries_of, Legal};
 ghost use Rattle.bus_model.specs.Soundness.{Sound};
 ghost use Rattle.backplane.specs.Machine.{configuration, IsBoard};
+ghost use Rattle.backplane.specs.Needs.{needed, reply_count};
 
 use crate::machine::Machine;
 use bus_signals::{Access, BoardNo, LineNo};
@@ -45,6 +46,14 @@ impl Machine {
         ensures bounded { length self.now.journal ≤ 8 * access_count self.now.setup }
     {
         &self.journal
+    }
+
+    /// The replies of all boards together, and their rows, are within what the setup needs.
+    pub(crate) fn within_need(&self)
+        ensures replies { reply_count self.now ≤ (needed self.now.setup).replies }
+        ensures rows { length (configuration self.now).rows ≤ (needed self.now.setup).frames }
+    {
+        let _pool = self.parts.rack.pool();
     }
 
     /// The completed accesses of a board, in order.

@@ -7,7 +7,7 @@ ghost use Rattle.bus_model.specs.Setup.{number_of};
 ghost use Rattle.bus_model.specs.Configuration.{Idle};
 ghost use Rattle.bus_model.specs.Events.{Grant};
 ghost use Rattle.backplane.specs.Parts.{IsPartOf, phase_of};
-ghost use Rattle.backplane.specs.Permits.{AreOfOneSetup, HasRaised, Wins, Tells, does_settle};
+ghost use Rattle.backplane.specs.Permits.{AreOfOneSetup, HasRaised, Tells, does_settle};
 
 use crate::parts::Parts;
 use crate::permits::same::all_hold;
@@ -50,7 +50,7 @@ fn settles(parts: &Parts, winner: BoardNo, lines: u16, rounds: u8) -> bool
 /// Whether a board wins the bus, and the lines settle to these in this many rounds.
 fn wins(parts: &Parts, winner: BoardNo, lines: u16, rounds: u8) -> bool
     requires { AreOfOneSetup parts.now }
-    ensures { IsTrue result ↔ Wins parts.now winner lines rounds }
+    ensures { IsTrue result ↔ (HasRaised parts.now winner × IsTrue (does_settle (competitors parts.now.requests) (number_of (setup_of parts.now.rack) winner) lines rounds)) }
 {
     if !has_raised(parts, winner) {
         return false;
