@@ -14,7 +14,8 @@ use Rattle.board.specs.Rack.{Rack, Counts, CountsFit, counts_at, no_counts, one_
 use Rattle.connect_phase.specs.Answering.{SpentBelow, answered_counts, rack_answered, connected_by, answer_from, is_other_holder}
 use Rattle.backplane.specs.Parts.{PlacesFit}
 
-fills-index : (counts : List Counts) (k : ℕ) → CountsFit counts → (unwrap_or (slice_get counts k) no_counts).fills < 2 ^ 63
+fills-index :
+    (counts : List Counts) (k : ℕ) → CountsFit counts → (unwrap_or (slice_get counts k) no_counts).fills < 2 ^ 63
 fills-index [] k fit = omega arith
 fills-index (n ∷ counts) zero fit = fit.0.0
 fills-index (n ∷ counts) (suc k) fit = fills-index counts k fit.1
@@ -23,7 +24,8 @@ pub fills-low : (counts : List Counts) (b : ℕ) → CountsFit counts → (count
 fills-low counts zero fit = omega arith
 fills-low counts (suc k) fit = fills-index counts k fit
 
-spent-index : (counts : List Counts) (k : ℕ) → CountsFit counts → (unwrap_or (slice_get counts k) no_counts).spent < 2 ^ 63
+spent-index :
+    (counts : List Counts) (k : ℕ) → CountsFit counts → (unwrap_or (slice_get counts k) no_counts).spent < 2 ^ 63
 spent-index [] k fit = omega arith
 spent-index (n ∷ counts) zero fit = fit.0.1
 spent-index (n ∷ counts) (suc k) fit = spent-index counts k fit.1
@@ -41,38 +43,54 @@ place-low [] k y l fit e = absurd (omega arith)
 place-low (n ∷ places) zero y l fit e = let low = fit.0 in omega (arith, low, e)
 place-low (n ∷ places) (suc k) y l fit e = place-low places k y (omega arith) fit.1 e
 
-filled-spent-index : (counts : List Counts) (k : ℕ) → (unwrap_or (slice_get (change_index one_more_fill counts k) k) no_counts).spent ≡ (unwrap_or (slice_get counts k) no_counts).spent
+filled-spent-index :
+    (counts : List Counts) (k : ℕ)
+    → (unwrap_or (slice_get (change_index one_more_fill counts k) k) no_counts).spent
+    ≡ (unwrap_or (slice_get counts k) no_counts).spent
 filled-spent-index [] k = refl
 filled-spent-index (n ∷ counts) zero = refl
 filled-spent-index (n ∷ counts) (suc k) = filled-spent-index counts k
 
-filled-spent : (counts : List Counts) (b : ℕ) → (counts_at (change_place one_more_fill counts b) b).spent ≡ (counts_at counts b).spent
+filled-spent :
+    (counts : List Counts) (b : ℕ)
+    → (counts_at (change_place one_more_fill counts b) b).spent ≡ (counts_at counts b).spent
 filled-spent counts zero = refl
 filled-spent counts (suc k) = filled-spent-index counts k
 
 put-keeps-spent : (here held : Bool) (rack : Rack) (b l : ℕ) (state : State) (words : List ℕ)
-    → (counts_at (cond here (rack_changed rack b l state words) (cond held (rack_filled rack b l state words) rack)).counts b).spent ≡ (counts_at rack.counts b).spent
+    → (counts_at (cond here (rack_changed rack b l state words) (cond held (rack_filled rack b l state words) rack)).counts
+    b).spent ≡ (counts_at rack.counts b).spent
 put-keeps-spent true held rack b l state words = refl
 put-keeps-spent false true rack b l state words = filled-spent rack.counts b
 put-keeps-spent false false rack b l state words = refl
 
 -- A copy that is put spends no draw.
-pub spent-put : (rack next : Rack) (b l : ℕ) (state : State) (words : List ℕ) → next ≡ rack_put rack b l state words → (counts_at next.counts b).spent ≡ (counts_at rack.counts b).spent
-spent-put rack next b l state words e = rw e (put-keeps-spent (has_row rack.rows b l) (holds state) rack b l state words)
+pub spent-put :
+    (rack next : Rack) (b l : ℕ) (state : State) (words : List ℕ) → next ≡ rack_put rack b l state words
+    → (counts_at next.counts b).spent ≡ (counts_at rack.counts b).spent
+spent-put rack next b l state words e =
+    rw e (put-keeps-spent (has_row rack.rows b l) (holds state) rack b l state words)
 
-spent-once-index : (counts : List Counts) (a b : ℕ) → (unwrap_or (slice_get (change_index one_more_spent counts a) b) no_counts).spent ≤ (unwrap_or (slice_get counts b) no_counts).spent + 1
+spent-once-index :
+    (counts : List Counts) (a b : ℕ)
+    → (unwrap_or (slice_get (change_index one_more_spent counts a) b) no_counts).spent
+    ≤ (unwrap_or (slice_get counts b) no_counts).spent + 1
 spent-once-index [] a b = omega arith
 spent-once-index (n ∷ counts) zero zero = omega arith
 spent-once-index (n ∷ counts) zero (suc b) = omega arith
 spent-once-index (n ∷ counts) (suc a) zero = omega arith
 spent-once-index (n ∷ counts) (suc a) (suc b) = spent-once-index counts a b
 
-spent-once : (counts : List Counts) (a b : ℕ) → (counts_at (change_place one_more_spent counts a) b).spent ≤ (counts_at counts b).spent + 1
+spent-once :
+    (counts : List Counts) (a b : ℕ)
+    → (counts_at (change_place one_more_spent counts a) b).spent ≤ (counts_at counts b).spent + 1
 spent-once counts zero b = omega arith
 spent-once counts (suc a) zero = omega arith
 spent-once counts (suc a) (suc b) = spent-once-index counts a b
 
-answered-low : (answers : List Answer) (counts : List Counts) (b : ℕ) → (counts_at (answered_counts counts answers) b).spent ≤ (counts_at counts b).spent + length answers
+answered-low :
+    (answers : List Answer) (counts : List Counts) (b : ℕ)
+    → (counts_at (answered_counts counts answers) b).spent ≤ (counts_at counts b).spent + length answers
 answered-low [] counts b = omega arith
 answered-low (a ∷ rest) counts b =
     let one = spent-once counts a.board b in
@@ -80,7 +98,9 @@ answered-low (a ∷ rest) counts b =
     omega (arith, one, more)
 
 -- Few answers leave each board's draws below the end of their type.
-pub answered-fits : (rack next : Rack) (answers : List Answer) (b : ℕ) → next ≡ rack_answered rack answers → length answers ≤ 16 → CountsFit rack.counts → suc (counts_at next.counts b).spent < 2 ^ 64
+pub answered-fits :
+    (rack next : Rack) (answers : List Answer) (b : ℕ) → next ≡ rack_answered rack answers → length answers ≤ 16
+    → CountsFit rack.counts → suc (counts_at next.counts b).spent < 2 ^ 64
 answered-fits rack next answers b e few fit =
     let low = spent-low rack.counts b fit in
     let more = answered-low answers rack.counts b in
@@ -94,7 +114,9 @@ pub length-filtered : {X : Type 0} (p : X → Bool) (xs : List X) → length (fi
 length-filtered p [] = omega arith
 length-filtered p (x ∷ xs) = go (p x) (length-filtered p xs)
   where
-    go : (b : Bool) → length (filter p xs) ≤ length xs → length (cond b (x ∷ filter p xs) (filter p xs)) ≤ suc (length xs)
+    go :
+        (b : Bool) → length (filter p xs) ≤ length xs
+        → length (cond b (x ∷ filter p xs) (filter p xs)) ≤ suc (length xs)
     go true rest = omega arith
     go false rest = omega arith
 
@@ -103,7 +125,9 @@ length-mapped f [] = refl
 length-mapped f (x ∷ xs) = ap suc (length-mapped f xs)
 
 -- A transaction has few answers.
-pub few-answers : (rack : Rack) (master line : ℕ) (event : BusEvent) (outcome : Outcome) (t : Transaction) → t ≡ connected_by rack master line event outcome → length rack.specs ≤ 16 → length t.answers ≤ 16
+pub few-answers :
+    (rack : Rack) (master line : ℕ) (event : BusEvent) (outcome : Outcome) (t : Transaction)
+    → t ≡ connected_by rack master line event outcome → length rack.specs ≤ 16 → length t.answers ≤ 16
 few-answers rack master line event outcome t e few =
     let others = other_holders (setup_of rack) rack.rows master line in
     let one = length-mapped (answer_from rack line event) others in

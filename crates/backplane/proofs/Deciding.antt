@@ -11,7 +11,9 @@ all_of facts = list_all (λ (fact : Bool). fact) facts
 pub none_left : (all_of [] ≡ true) ↔ Unit {0}
 none_left = (λ h. tt, λ u. refl)
 
-pub one_more : (b : Bool) (rest : List Bool) (P Q : Type 0) → ((b ≡ true) ↔ P) → ((all_of rest ≡ true) ↔ Q) → ((all_of (b ∷ rest) ≡ true) ↔ (P × Q))
+pub one_more :
+    (b : Bool) (rest : List Bool) (P Q : Type 0) → ((b ≡ true) ↔ P) → ((all_of rest ≡ true) ↔ Q)
+    → ((all_of (b ∷ rest) ≡ true) ↔ (P × Q))
 one_more b rest P Q d e = (
   λ h. let p = and_parts b (all_of rest) h in (d.0 p.0, e.0 p.1),
   λ h. and_from b (all_of rest) (d.1 h.0) (e.1 h.1),

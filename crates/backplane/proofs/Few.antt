@@ -38,7 +38,8 @@ below-past (suc n) x xs h =
     let other : (x == n) ≡ false = grind (arith, nat_tests) in
     rw other (omega arith)
 
-below-cons-by : (n x : ℕ) (xs : List ℕ) (b : Bool) → (x == n) ≡ b → x < suc n → (x < n → below n (x ∷ xs) ≡ suc (below n xs))
+below-cons-by :
+    (n x : ℕ) (xs : List ℕ) (b : Bool) → (x == n) ≡ b → x < suc n → (x < n → below n (x ∷ xs) ≡ suc (below n xs))
     → cond b 1 0 + count_where (λ y. y == n) xs + below n (x ∷ xs) ≡ suc (count_where (λ y. y == n) xs + below n xs)
 below-cons-by n x xs true e h earlier =
     let same = eqb-true x n e in
@@ -92,7 +93,8 @@ below-few (suc n) xs apart = let here = once n xs apart in let rest = below-few 
 pub rows-few : (pool : Pool) (rows : List Row) → RowsHaveFrames pool rows → length rows ≤ length pool.out
 rows-few pool rows h =
     let long : length rows ≡ length h.numbers =
-    sym (length-map rows (λ (row : Row). row.words)) ∙ ap (λ (ws : List (List ℕ)). length ws) h.words ∙ length-map h.numbers (words_of pool) in
+    sym (length-map rows (λ (row : Row). row.words)) ∙ ap (λ (ws : List (List ℕ)). length ws) h.words
+    ∙ length-map h.numbers (words_of pool) in
     let all = all-below (length pool.out) h.numbers (λ k d l. (h.out k d l).inside) in
     let few = below-few (length pool.out) h.numbers h.apart in
     omega (arith, long, all, few)
@@ -115,30 +117,44 @@ sum-within f k (x ∷ xs) (s ∷ scripts) long each =
     omega (arith, here, rest, left, right)
 
 -- All boards together have no more replies than there are accesses.
-replies-few : (setup : Setup) (events : List Event) (c : Configuration) → length setup.scripts ≡ length setup.boards → Sound setup events c
+replies-few :
+    (setup : Setup) (events : List Event) (c : Configuration) → length setup.scripts ≡ length setup.boards
+    → Sound setup events c
     → sum_by (λ board. length (entries_of board (entries events))) (board_places setup) ≤ access_count setup
 replies-few setup events c long sound =
     sum-within (λ board. length (entries_of board (entries events))) 1 setup.boards setup.scripts long
-    (λ j. let e : suc j ≡ 1 + j = omega arith in subst (λ (b : ℕ). replies b ≤ length (unwrap_or (slice_get setup.scripts j) [])) e (each j))
+    (λ j.
+    let e : suc j ≡ 1 + j = omega arith in
+    subst (λ (b : ℕ). replies b ≤ length (unwrap_or (slice_get setup.scripts j) [])) e (each j))
   where
     replies : ℕ → ℕ
     replies board = length (entries_of board (entries events))
 
     each : (j : ℕ) → length (entries_of (suc j) (entries events)) ≤ length (unwrap_or (slice_get setup.scripts j) [])
-    each j = let count = (sound.scripts (suc j)).count in let within = place_within setup events c (suc j) sound in omega (arith, count, within)
+    each j =
+        let count = (sound.scripts (suc j)).count in
+        let within = place_within setup events c (suc j) sound in omega (arith, count, within)
 
 -- ---- the whole
 
-pub replies-within : (setup : Setup) (events : List Event) (capacity : ℕ) (p : Parts) (h : Histories) (now : Machine) → Stands setup events capacity p h → record { setup = setup; journal = events } ≡ now
+pub replies-within :
+    (setup : Setup) (events : List Event) (capacity : ℕ) (p : Parts) (h : Histories) (now : Machine)
+    → Stands setup events capacity p h → record { setup = setup; journal = events } ≡ now
     → reply_count now ≤ (needed now.setup).replies
 replies-within setup events capacity p h now stands same =
     subst (λ (m : Machine). reply_count m ≤ (needed m.setup).replies) same
-    (replies-few setup events (configuration_after setup events) stands.fits.scripts (stands-sound setup events capacity p h stands))
+    (replies-few setup events (configuration_after setup events) stands.fits.scripts
+    (stands-sound setup events capacity p h stands))
 
-pub rows-within : (setup : Setup) (events : List Event) (capacity : ℕ) (p : Parts) (h : Histories) (now : Machine) (pool : Pool) → Stands setup events capacity p h → record { setup = setup; journal = events } ≡ now
-    → RowsHaveFrames pool p.rack.rows → length pool.out ≡ all_ways p.rack.specs → length (configuration now).rows ≤ (needed now.setup).frames
+pub rows-within :
+    (setup : Setup) (events : List Event) (capacity : ℕ) (p : Parts) (h : Histories) (now : Machine) (pool : Pool)
+    → Stands setup events capacity p h → record { setup = setup; journal = events } ≡ now
+    → RowsHaveFrames pool p.rack.rows → length pool.out ≡ all_ways p.rack.specs
+    → length (configuration now).rows ≤ (needed now.setup).frames
 rows-within setup events capacity p h now pool stands same have all =
     let few = rows-few pool p.rack.rows have in
-    let rows : length p.rack.rows ≡ length (configuration_after setup events).rows = ap (λ (rs : List Row). length rs) stands.parts.rack.rows in
+    let rows : length p.rack.rows ≡ length (configuration_after setup events).rows =
+    ap (λ (rs : List Row). length rs) stands.parts.rack.rows in
     let ways : all_ways p.rack.specs ≡ all_ways setup.boards = ap all_ways stands.parts.boards in
-    subst (λ (m : Machine). length (configuration m).rows ≤ (needed m.setup).frames) same (omega (arith, few, all, rows, ways))
+    subst (λ (m : Machine). length (configuration m).rows ≤ (needed m.setup).frames) same
+    (omega (arith, few, all, rows, ways))

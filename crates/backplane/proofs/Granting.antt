@@ -22,11 +22,14 @@ record Settles (numbers : List ℕ) (number lines rounds : ℕ) : Type 0 where
   pub lines_settled : lines ≡ settled_lines numbers
   pub rounds_settled : rounds ≡ settled_rounds numbers
 
-settles : (numbers : List ℕ) (number lines rounds : ℕ) → does_settle numbers number lines rounds ≡ true → Settles numbers number lines rounds
+settles :
+    (numbers : List ℕ) (number lines rounds : ℕ) → does_settle numbers number lines rounds ≡ true
+    → Settles numbers number lines rounds
 settles [] number lines rounds e = cc
 settles (n ∷ rest) number lines rounds e =
     let numbers : List ℕ = n ∷ rest in
-    let p = and_parts (number == highest numbers && lines == settled_lines numbers) (rounds == settled_rounds numbers) e in
+    let p =
+    and_parts (number == highest numbers && lines == settled_lines numbers) (rounds == settled_rounds numbers) e in
     let q = and_parts (number == highest numbers) (lines == settled_lines numbers) p.0 in
     record {
       number_highest = eqb-true number (highest numbers) q.0;
@@ -34,15 +37,19 @@ settles (n ∷ rest) number lines rounds e =
       rounds_settled = eqb-true rounds (settled_rounds numbers) p.1;
     }
 
-settled : (numbers : List ℕ) (number lines rounds : ℕ) → (numbers ≡ [] → ⊥) → Settles numbers number lines rounds → does_settle numbers number lines rounds ≡ true
+settled :
+    (numbers : List ℕ) (number lines rounds : ℕ) → (numbers ≡ [] → ⊥) → Settles numbers number lines rounds
+    → does_settle numbers number lines rounds ≡ true
 settled [] number lines rounds some s = absurd (some refl)
 settled (n ∷ rest) number lines rounds some s =
     let numbers : List ℕ = n ∷ rest in
     and_from (number == highest numbers && lines == settled_lines numbers) (rounds == settled_rounds numbers)
-    (and_from (number == highest numbers) (lines == settled_lines numbers) (eq-eqb number (highest numbers) s.number_highest) (eq-eqb lines (settled_lines numbers) s.lines_settled))
+    (and_from (number == highest numbers) (lines == settled_lines numbers)
+    (eq-eqb number (highest numbers) s.number_highest) (eq-eqb lines (settled_lines numbers) s.lines_settled))
     (eq-eqb rounds (settled_rounds numbers) s.rounds_settled)
 
-module _ (setup : Setup) (c : Configuration) (parts : Parts) (shows : PartsShow setup c parts) (one : AreOfOneSetup parts) (long : length c.boards ≡ length setup.boards) where
+module _ (setup : Setup) (c : Configuration) (parts : Parts) (shows : PartsShow setup c parts)
+    (one : AreOfOneSetup parts) (long : length c.boards ≡ length setup.boards) where
   -- A board has raised a request in the parts exactly where it has in the configuration.
   requested : (board : ℕ) → HasRaised parts board → is_raised c.boards board ≡ true
   requested board h = sym (raised-shown setup c parts board shows h.there) ∙ h.raised
@@ -55,25 +62,36 @@ module _ (setup : Setup) (c : Configuration) (parts : Parts) (shows : PartsShow 
       let places = one.places in
       let low = within.0 in
       let high = within.1 in
-      let there : IsPartOf parts board = record { low = low; rack = omega arith; requests = omega arith; places = omega arith } in
+      let there : IsPartOf parts board =
+      record { low = low; rack = omega arith; requests = omega arith; places = omega arith } in
       record { there = there; raised = raised-shown setup c parts board shows there ∙ h }
 
   some_compete : (board : ℕ) → is_raised c.boards board ≡ true → competitors parts.requests ≡ [] → ⊥
-  some_compete board h = let r = requesting board h in some-competes parts.requests board r.there.low r.there.requests r.raised
+  some_compete board h =
+      let r = requesting board h in some-competes parts.requests board r.there.low r.there.requests r.raised
 
   -- A board has raised a request, and the contest shows its number, with these lines and in this many rounds.
   abbrev Won : ℕ → ℕ → ℕ → Type 0
-  Won winner lines rounds = HasRaised parts winner × IsTrue (does_settle (competitors parts.requests) (number_of (setup_of parts.rack) winner) lines rounds)
+  Won winner lines rounds =
+      HasRaised parts winner
+      × IsTrue (does_settle (competitors parts.requests) (number_of (setup_of parts.rack) winner) lines rounds)
 
   pub grant_told : (by winner lines rounds : ℕ) (idle raised wins : Bool)
-      → ((idle ≡ true) ↔ (phase_of parts.phase ≡ Idle)) → ((raised ≡ true) ↔ HasRaised parts by) → ((wins ≡ true) ↔ Won winner lines rounds)
+      → ((idle ≡ true) ↔ (phase_of parts.phase ≡ Idle)) → ((raised ≡ true) ↔ HasRaised parts by)
+      → ((wins ≡ true) ↔ Won winner lines rounds)
       → (all_of (idle ∷ raised ∷ wins ∷ []) ≡ true) ↔ CanGrant setup c by winner lines rounds
   grant_told by winner lines rounds idle raised wins i r w = (λ h. build (facts.0 h), λ can. facts.1 (back can))
     where
-      facts : (all_of (idle ∷ raised ∷ wins ∷ []) ≡ true) ↔ ((phase_of parts.phase ≡ Idle) × (HasRaised parts by × (Won winner lines rounds × Unit {0})))
-      facts = one_more idle (raised ∷ wins ∷ []) _ _ i (one_more raised (wins ∷ []) _ _ r (one_more wins [] _ _ w none_left))
+      facts :
+          (all_of (idle ∷ raised ∷ wins ∷ []) ≡ true)
+          ↔ ((phase_of parts.phase ≡ Idle) × (HasRaised parts by × (Won winner lines rounds × Unit {0})))
+      facts =
+          one_more idle (raised ∷ wins ∷ []) _ _ i
+          (one_more raised (wins ∷ []) _ _ r (one_more wins [] _ _ w none_left))
 
-      build : (phase_of parts.phase ≡ Idle) × (HasRaised parts by × (Won winner lines rounds × Unit {0})) → CanGrant setup c by winner lines rounds
+      build :
+          (phase_of parts.phase ≡ Idle) × (HasRaised parts by × (Won winner lines rounds × Unit {0}))
+          → CanGrant setup c by winner lines rounds
       build f =
           let won = f.1.1.0 in
           let s = settles (competitors parts.requests) (number_of (setup_of parts.rack) winner) lines rounds won.1 in
@@ -89,7 +107,9 @@ module _ (setup : Setup) (c : Configuration) (parts : Parts) (shows : PartsShow 
             };
           }
 
-      back : CanGrant setup c by winner lines rounds → (phase_of parts.phase ≡ Idle) × (HasRaised parts by × (Won winner lines rounds × Unit {0}))
+      back :
+          CanGrant setup c by winner lines rounds
+          → (phase_of parts.phase ≡ Idle) × (HasRaised parts by × (Won winner lines rounds × Unit {0}))
       back can =
           let compete = sym (competitors-shown setup c parts shows (sym long)) in
           let s : Settles (competitors parts.requests) (number_of (setup_of parts.rack) winner) lines rounds = record {
@@ -103,7 +123,8 @@ module _ (setup : Setup) (c : Configuration) (parts : Parts) (shows : PartsShow 
               (
                 (
                   requesting winner can.wins.raised,
-                  settled (competitors parts.requests) (number_of (setup_of parts.rack) winner) lines rounds (some_compete by can.by_raised) s,
+                  settled (competitors parts.requests) (number_of (setup_of parts.rack) winner) lines rounds
+                      (some_compete by can.by_raised) s,
                 ),
                 tt,
               ),

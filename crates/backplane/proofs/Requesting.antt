@@ -10,10 +10,14 @@ past_end (p ∷ boards) zero h = absurd (omega arith)
 past_end (p ∷ boards) (suc k) h = past_end boards k (omega arith)
 
 -- A board that has raised a request is there.
-pub raised_within : (boards : List Progress) (board : ℕ) → is_raised boards board ≡ true → (1 ≤ board) × (board ≤ length boards)
+pub raised_within :
+    (boards : List Progress) (board : ℕ) → is_raised boards board ≡ true → (1 ≤ board) × (board ≤ length boards)
 raised_within boards zero e = cc
 raised_within boards (suc k) e = go (cases_lt k (length boards))
   where
     go : (k < length boards) ⊎ (length boards ≤ k) → (1 ≤ suc k) × (suc k ≤ length boards)
     go (inl h) = (omega arith, omega arith)
-    go (inr h) = let none : false ≡ true = sym (ap (λ (o : Option Progress). (unwrap_or o fresh).raised) (past_end boards k h)) ∙ e in cc
+    go (inr h) =
+        let none : false ≡ true =
+        sym (ap (λ (o : Option Progress). (unwrap_or o fresh).raised) (past_end boards k h)) ∙ e in
+        cc

@@ -27,12 +27,18 @@ use Rattle.backplane.proofs.Marks.{mark-set, mark-kept, marks-answered}
 use Rattle.std.specs.Global.{Vec}
 
 -- A request that is raised or lowered.
-pub shown-ask : (setup : Setup) (c : Configuration) (p : Parts) (requests : Requests) (b : ℕ) (raised : Bool) → 1 ≤ b → requests ≡ with_request p.requests b raised
+pub shown-ask :
+    (setup : Setup) (c : Configuration) (p : Parts) (requests : Requests) (b : ℕ) (raised : Bool) → 1 ≤ b
+    → requests ≡ with_request p.requests b raised
     → PartsShow setup c p → PartsShow setup (ask raised c b) (record p { requests = requests })
 shown-ask setup c p requests b raised low e s = record {
   tables = s.tables;
   boards = s.boards;
-  rack = record { rows = s.rack.rows; counts = s.rack.counts ∙ sym (kept-place counts_from (asking raised) (λ q. refl) c.boards b) };
+  rack =
+      record {
+        rows = s.rack.rows;
+        counts = s.rack.counts ∙ sym (kept-place counts_from (asking raised) (λ q. refl) c.boards b);
+      };
   memory = s.memory;
   numbers = ap (λ (r : Requests). r.numbers) e ∙ s.numbers;
   raised = rw e (mark-set raised c.boards p.requests.raised b low s.raised);
@@ -41,7 +47,9 @@ shown-ask setup c p requests b raised low e s = record {
 }
 
 -- Another phase.
-pub shown-phase : (setup : Setup) (c : Configuration) (p : Parts) (phase : Phase) (next : model.Phase) → phase_of phase ≡ next → PartsShow setup c p → PartsShow setup (in_phase next c) (record p { phase = phase })
+pub shown-phase :
+    (setup : Setup) (c : Configuration) (p : Parts) (phase : Phase) (next : model.Phase) → phase_of phase ≡ next
+    → PartsShow setup c p → PartsShow setup (in_phase next c) (record p { phase = phase })
 shown-phase setup c p phase next e s = record {
   tables = s.tables;
   boards = s.boards;
@@ -54,13 +62,17 @@ shown-phase setup c p phase next e s = record {
 }
 
 -- A draw that is spent.
-pub shown-spend : (setup : Setup) (c : Configuration) (p : Parts) (rack : Rack) (b : ℕ) → rack ≡ rack_spent p.rack b → PartsShow setup c p → PartsShow setup (spend c b) (record p { rack = rack })
+pub shown-spend :
+    (setup : Setup) (c : Configuration) (p : Parts) (rack : Rack) (b : ℕ) → rack ≡ rack_spent p.rack b
+    → PartsShow setup c p → PartsShow setup (spend c b) (record p { rack = rack })
 shown-spend setup c p rack b e s = record {
   tables = ap (λ (r : Rack). r.tables) e ∙ s.tables;
   boards = ap (λ (r : Rack). r.specs) e ∙ s.boards;
   rack = record {
     rows = ap (λ (r : Rack). r.rows) e ∙ s.rack.rows;
-    counts = ap (λ (r : Rack). r.counts) e ∙ ap (λ (cs : List Counts). change_place one_more_spent cs b) s.rack.counts ∙ one-place c.boards b;
+    counts =
+        ap (λ (r : Rack). r.counts) e ∙ ap (λ (cs : List Counts). change_place one_more_spent cs b) s.rack.counts
+        ∙ one-place c.boards b;
   };
   memory = s.memory;
   numbers = s.numbers;
@@ -70,19 +82,30 @@ shown-spend setup c p rack b e s = record {
 }
 
 -- An access that is completed.
-pub shown-complete : (setup : Setup) (c : Configuration) (p : Parts) (places : Vec ℕ) (b : ℕ) → places.items ≡ change_place suc p.places.items b → PartsShow setup c p → PartsShow setup (complete c b) (record p { places = places })
+pub shown-complete :
+    (setup : Setup) (c : Configuration) (p : Parts) (places : Vec ℕ) (b : ℕ)
+    → places.items ≡ change_place suc p.places.items b → PartsShow setup c p
+    → PartsShow setup (complete c b) (record p { places = places })
 shown-complete setup c p places b e s = record {
   tables = s.tables;
   boards = s.boards;
-  rack = record { rows = s.rack.rows; counts = s.rack.counts ∙ sym (kept-place counts_from completed (λ q. refl) c.boards b) };
+  rack =
+      record {
+        rows = s.rack.rows;
+        counts = s.rack.counts ∙ sym (kept-place counts_from completed (λ q. refl) c.boards b);
+      };
   memory = s.memory;
   numbers = s.numbers;
   raised = mark-kept completed (λ q. refl) c.boards p.requests.raised b s.raised;
-  places = e ∙ ap (λ (ns : List ℕ). change_place suc ns b) s.places ∙ sym (map-place (λ (q : Progress). q.place) completed suc (λ q. refl) c.boards b);
+  places =
+      e ∙ ap (λ (ns : List ℕ). change_place suc ns b) s.places
+      ∙ sym (map-place (λ (q : Progress). q.place) completed suc (λ q. refl) c.boards b);
   phase = s.phase;
 }
 
-fills-index : (ps : List Progress) (m : ℕ) → (unwrap_or (slice_get (map counts_from ps) m) no_counts).fills ≡ (unwrap_or (slice_get ps m) fresh).fills
+fills-index :
+    (ps : List Progress) (m : ℕ)
+    → (unwrap_or (slice_get (map counts_from ps) m) no_counts).fills ≡ (unwrap_or (slice_get ps m) fresh).fills
 fills-index [] m = refl
 fills-index (p ∷ ps) zero = refl
 fills-index (p ∷ ps) (suc m) = fills-index ps m
@@ -92,14 +115,19 @@ pub fills-place : (ps : List Progress) (b : ℕ) → (counts_at (map counts_from
 fills-place ps zero = refl
 fills-place ps (suc m) = fills-index ps m
 
-shown-put-by : (here held : Bool) (setup : Setup) (c : Configuration) (p : Parts) (rack : Rack) (b l : ℕ) (state : State) (words : List ℕ)
+shown-put-by :
+    (here held : Bool) (setup : Setup) (c : Configuration) (p : Parts) (rack : Rack) (b l : ℕ) (state : State)
+    (words : List ℕ)
     → rack ≡ cond here (rack_changed p.rack b l state words) (cond held (rack_filled p.rack b l state words) p.rack)
-    → PartsShow setup c p → PartsShow setup (cond here (change_copy c b l state words) (cond held (fill_copy c b l state words) c)) (record p { rack = rack })
+    → PartsShow setup c p
+    → PartsShow setup (cond here (change_copy c b l state words) (cond held (fill_copy c b l state words) c))
+    (record p { rack = rack })
 shown-put-by true held setup c p rack b l state words e s = record {
   tables = ap (λ (r : Rack). r.tables) e ∙ s.tables;
   boards = ap (λ (r : Rack). r.specs) e ∙ s.boards;
   rack = record {
-    rows = ap (λ (r : Rack). r.rows) e ∙ ap (λ (rows : List Row). filter_map (copy_as b l state words) rows) s.rack.rows;
+    rows =
+        ap (λ (r : Rack). r.rows) e ∙ ap (λ (rows : List Row). filter_map (copy_as b l state words) rows) s.rack.rows;
     counts = ap (λ (r : Rack). r.counts) e ∙ s.rack.counts;
   };
   memory = s.memory;
@@ -114,7 +142,14 @@ shown-put-by false true setup c p rack b l state words e s = record {
   rack = record {
     rows =
         ap (λ (r : Rack). r.rows) e
-        ∙ ap (λ (rows : List Row). with_row (record { board = b; line = l; state = state; words = words; fill = (counts_at p.rack.counts b).fills }) rows) s.rack.rows
+        ∙ ap (λ (rows : List Row).
+        with_row (record {
+          board = b;
+          line = l;
+          state = state;
+          words = words;
+          fill = (counts_at p.rack.counts b).fills;
+        }) rows) s.rack.rows
         ∙ ap (λ (n : ℕ). with_row (record { board = b; line = l; state = state; words = words; fill = n }) c.rows)
         (ap (λ (cs : List Counts). (counts_at cs b).fills) s.rack.counts ∙ fills-place c.boards b);
     counts =
@@ -130,7 +165,11 @@ shown-put-by false true setup c p rack b l state words e s = record {
 shown-put-by false false setup c p rack b l state words e s = record {
   tables = ap (λ (r : Rack). r.tables) e ∙ s.tables;
   boards = ap (λ (r : Rack). r.specs) e ∙ s.boards;
-  rack = record { rows = ap (λ (r : Rack). r.rows) e ∙ s.rack.rows; counts = ap (λ (r : Rack). r.counts) e ∙ s.rack.counts };
+  rack =
+      record {
+        rows = ap (λ (r : Rack). r.rows) e ∙ s.rack.rows;
+        counts = ap (λ (r : Rack). r.counts) e ∙ s.rack.counts;
+      };
   memory = s.memory;
   numbers = s.numbers;
   raised = s.raised;
@@ -139,11 +178,18 @@ shown-put-by false false setup c p rack b l state words e s = record {
 }
 
 -- A copy that gets a state and words.
-pub shown-put : (setup : Setup) (c : Configuration) (p : Parts) (rack : Rack) (b l : ℕ) (state : State) (words : List ℕ) → rack ≡ rack_put p.rack b l state words
+pub shown-put :
+    (setup : Setup) (c : Configuration) (p : Parts) (rack : Rack) (b l : ℕ) (state : State) (words : List ℕ)
+    → rack ≡ rack_put p.rack b l state words
     → PartsShow setup c p → PartsShow setup (put_copy c b l state words) (record p { rack = rack })
 shown-put setup c p rack b l state words e s =
-    let here : rack ≡ cond (has_row c.rows b l) (rack_changed p.rack b l state words) (cond (holds state) (rack_filled p.rack b l state words) p.rack) =
-    e ∙ ap (λ (rows : List Row). cond (has_row rows b l) (rack_changed p.rack b l state words) (cond (holds state) (rack_filled p.rack b l state words) p.rack)) s.rack.rows in
+    let here : rack
+    ≡ cond (has_row c.rows b l) (rack_changed p.rack b l state words)
+    (cond (holds state) (rack_filled p.rack b l state words) p.rack) =
+    e
+    ∙ ap (λ (rows : List Row).
+    cond (has_row rows b l) (rack_changed p.rack b l state words)
+    (cond (holds state) (rack_filled p.rack b l state words) p.rack)) s.rack.rows in
     shown-put-by (has_row c.rows b l) (holds state) setup c p rack b l state words here s
 
 -- The phase that is left where a board has a grant, and where it has none.
@@ -157,22 +203,30 @@ no-grant-left model.Idle b h = refl
 no-grant-left (model.Granted g) b h = rw h refl
 no-grant-left (model.Connected t) b h = refl
 
--- What a board does to the parts where it completes an access by itself: it puts its copy, spends a draw, lowers its request and goes to its next place.
-pub record Settles (p : Parts) (put spent : Rack) (requests : Requests) (places : Vec ℕ) (b line : ℕ) (state : State) (words : List ℕ) : Type 0 where
+-- What a board does to the parts where it completes an access by itself: it puts its copy, spends a draw, lowers its
+-- request and goes to its next place.
+pub record Settles (p : Parts) (put spent : Rack) (requests : Requests) (places : Vec ℕ) (b line : ℕ) (state : State)
+    (words : List ℕ) : Type 0 where
   pub puts : put ≡ rack_put p.rack b line state words
   pub spends : spent ≡ rack_spent put b
   pub lowers : requests ≡ with_request p.requests b false
   pub completes : places.items ≡ change_place suc p.places.items b
 
 -- The words of the copy, with the written word.
-pub words-written : (p : Parts) (b line : ℕ) (copied words : List ℕ) (done : Done) → line ≡ access_line done.access → copied ≡ words_at p.rack.rows b line → words ≡ written done.access copied
+pub words-written :
+    (p : Parts) (b line : ℕ) (copied words : List ℕ) (done : Done) → line ≡ access_line done.access
+    → copied ≡ words_at p.rack.rows b line → words ≡ written done.access copied
     → words ≡ written done.access (words_at p.rack.rows b (access_line done.access))
 words-written p b line copied words done el ec ew = ew ∙ ap (written done.access) (ec ∙ ap (words_at p.rack.rows b) el)
 
-shown-settled : (setup : Setup) (c : Configuration) (p : Parts) (put spent : Rack) (requests : Requests) (places : Vec ℕ) (b line : ℕ) (state : State) (words : List ℕ) (done : Done) → 1 ≤ b
-    → Settles p put spent requests places b line state words → line ≡ access_line done.access → words ≡ written done.access (words_at p.rack.rows b (access_line done.access))
+shown-settled :
+    (setup : Setup) (c : Configuration) (p : Parts) (put spent : Rack) (requests : Requests) (places : Vec ℕ)
+    (b line : ℕ) (state : State) (words : List ℕ) (done : Done) → 1 ≤ b
+    → Settles p put spent requests places b line state words → line ≡ access_line done.access
+    → words ≡ written done.access (words_at p.rack.rows b (access_line done.access))
     → PartsShow setup c p
-    → PartsShow setup (ask false (spend (complete (put_copy c b (access_line done.access) state (written done.access (words_at c.rows b (access_line done.access)))) b) b) b)
+    → PartsShow setup (ask false (spend (complete (put_copy c b (access_line done.access) state
+    (written done.access (words_at c.rows b (access_line done.access)))) b) b) b)
     (record p { rack = spent; requests = requests; places = places })
 shown-settled setup c p put spent requests places b line state words done low h el ew s =
     let at = access_line done.access in
@@ -180,44 +234,67 @@ shown-settled setup c p put spent requests places b line state words done low h 
     let moved = put_copy c b at state now in
     let puts : put ≡ rack_put p.rack b at state now =
     h.puts ∙ ap (λ (l : ℕ). rack_put p.rack b l state words) el
-    ∙ ap (λ (w : List ℕ). rack_put p.rack b at state w) (ew ∙ ap (λ (rows : List Row). written done.access (words_at rows b at)) s.rack.rows) in
+    ∙ ap (λ (w : List ℕ). rack_put p.rack b at state w)
+    (ew ∙ ap (λ (rows : List Row). written done.access (words_at rows b at)) s.rack.rows) in
     let first = shown-put setup c p put b at state now puts s in
     let second = shown-complete setup moved (record p { rack = put }) places b h.completes first in
-    let third = shown-spend setup (complete moved b) (record p { rack = put; places = places }) spent b h.spends second in
-    shown-ask setup (spend (complete moved b) b) (record p { rack = spent; places = places }) requests b false low h.lowers third
+    let third =
+    shown-spend setup (complete moved b) (record p { rack = put; places = places }) spent b h.spends second in
+    shown-ask setup (spend (complete moved b) b) (record p { rack = spent; places = places }) requests b false low
+    h.lowers third
 
 -- An access that a board completes by itself, where it has no grant.
-pub shown-local : (setup : Setup) (c : Configuration) (p : Parts) (put spent : Rack) (requests : Requests) (places : Vec ℕ) (b line : ℕ) (state : State) (words : List ℕ) (done : Done) → 1 ≤ b
-    → Settles p put spent requests places b line state words → line ≡ access_line done.access → words ≡ written done.access (words_at p.rack.rows b (access_line done.access))
+pub shown-local :
+    (setup : Setup) (c : Configuration) (p : Parts) (put spent : Rack) (requests : Requests) (places : Vec ℕ)
+    (b line : ℕ) (state : State) (words : List ℕ) (done : Done) → 1 ≤ b
+    → Settles p put spent requests places b line state words → line ≡ access_line done.access
+    → words ≡ written done.access (words_at p.rack.rows b (access_line done.access))
     → is_granted (phase_of p.phase) b ≡ false → PartsShow setup c p
     → PartsShow setup (after_local c b state done) (record p { rack = spent; requests = requests; places = places })
 shown-local setup c p put spent requests places b line state words done low h el ew granted s =
     let settled = shown-settled setup c p put spent requests places b line state words done low h el ew s in
-    let left : phase_of p.phase ≡ without_grant c.phase b = s.phase ∙ no-grant-left c.phase b (ap (λ (q : model.Phase). is_granted q b) (sym s.phase) ∙ granted) in
-    shown-phase setup _ (record p { rack = spent; requests = requests; places = places }) p.phase (without_grant c.phase b) left settled
+    let left : phase_of p.phase ≡ without_grant c.phase b =
+    s.phase ∙ no-grant-left c.phase b (ap (λ (q : model.Phase). is_granted q b) (sym s.phase) ∙ granted) in
+    shown-phase setup _ (record p { rack = spent; requests = requests; places = places }) p.phase
+    (without_grant c.phase b) left settled
 
 -- The same where it gives a grant up.
-pub shown-local-granted : (setup : Setup) (c : Configuration) (p : Parts) (put spent : Rack) (requests : Requests) (places : Vec ℕ) (b line : ℕ) (state : State) (words : List ℕ) (done : Done) → 1 ≤ b
-    → Settles p put spent requests places b line state words → line ≡ access_line done.access → words ≡ written done.access (words_at p.rack.rows b (access_line done.access))
+pub shown-local-granted :
+    (setup : Setup) (c : Configuration) (p : Parts) (put spent : Rack) (requests : Requests) (places : Vec ℕ)
+    (b line : ℕ) (state : State) (words : List ℕ) (done : Done) → 1 ≤ b
+    → Settles p put spent requests places b line state words → line ≡ access_line done.access
+    → words ≡ written done.access (words_at p.rack.rows b (access_line done.access))
     → is_granted (phase_of p.phase) b ≡ true → PartsShow setup c p
-    → PartsShow setup (after_local c b state done) (record p { rack = spent; requests = requests; phase = Idle; places = places })
+    → PartsShow setup (after_local c b state done)
+    (record p { rack = spent; requests = requests; phase = Idle; places = places })
 shown-local-granted setup c p put spent requests places b line state words done low h el ew granted s =
     let settled = shown-settled setup c p put spent requests places b line state words done low h el ew s in
-    let left : model.Idle ≡ without_grant c.phase b = grant-left c.phase b (ap (λ (q : model.Phase). is_granted q b) (sym s.phase) ∙ granted) in
-    shown-phase setup _ (record p { rack = spent; requests = requests; places = places }) Idle (without_grant c.phase b) left settled
+    let left : model.Idle ≡ without_grant c.phase b =
+    grant-left c.phase b (ap (λ (q : model.Phase). is_granted q b) (sym s.phase) ∙ granted) in
+    shown-phase setup _ (record p { rack = spent; requests = requests; places = places }) Idle (without_grant c.phase b)
+    left settled
 
-answered-swap : (answers : List Answer) (boards : List Progress) (m : ℕ) → answered (change_place spent boards m) answers ≡ change_place spent (answered boards answers) m
+answered-swap :
+    (answers : List Answer) (boards : List Progress) (m : ℕ)
+    → answered (change_place spent boards m) answers ≡ change_place spent (answered boards answers) m
 answered-swap [] boards m = refl
 answered-swap (a ∷ rest) boards m =
-    ap (λ (ps : List Progress). answered ps rest) (swap-place spent boards m a.board) ∙ answered-swap rest (change_place spent boards a.board) m
+    ap (λ (ps : List Progress). answered ps rest) (swap-place spent boards m a.board)
+    ∙ answered-swap rest (change_place spent boards a.board) m
 
-answered-places : (answers : List Answer) (boards : List Progress) → map (λ (q : Progress). q.place) (answered boards answers) ≡ map (λ (q : Progress). q.place) boards
+answered-places :
+    (answers : List Answer) (boards : List Progress)
+    → map (λ (q : Progress). q.place) (answered boards answers) ≡ map (λ (q : Progress). q.place) boards
 answered-places [] boards = refl
-answered-places (a ∷ rest) boards = answered-places rest (change_place spent boards a.board) ∙ kept-place (λ (q : Progress). q.place) spent (λ q. refl) boards a.board
+answered-places (a ∷ rest) boards =
+    answered-places rest (change_place spent boards a.board)
+    ∙ kept-place (λ (q : Progress). q.place) spent (λ q. refl) boards a.board
 
 -- A transaction that is connected, its answers first and its master's draw then.
-pub shown-connect : (setup : Setup) (c : Configuration) (p : Parts) (answering next : Rack) (phase : Phase) (t : Transaction)
-    → answering ≡ rack_answered p.rack t.answers → next ≡ rack_spent answering t.master → phase_of phase ≡ model.Connected t
+pub shown-connect :
+    (setup : Setup) (c : Configuration) (p : Parts) (answering next : Rack) (phase : Phase) (t : Transaction)
+    → answering ≡ rack_answered p.rack t.answers → next ≡ rack_spent answering t.master
+    → phase_of phase ≡ model.Connected t
     → PartsShow setup c p → PartsShow setup (after_connect c t) (record p { rack = next; phase = phase })
 shown-connect setup c p answering next phase t ea en ep s =
     let shown = answers-spent c p.rack answering t ea s.rack in
@@ -227,31 +304,43 @@ shown-connect setup c p answering next phase t ea en ep s =
       rack = record {
         rows = ap (λ (r : Rack). r.rows) en ∙ shown.rows;
         counts =
-            ap (λ (r : Rack). r.counts) en ∙ ap (λ (cs : List Counts). change_place one_more_spent cs t.master) shown.counts
-            ∙ one-place (answered c.boards t.answers) t.master ∙ ap (map counts_from) (sym (answered-swap t.answers c.boards t.master));
+            ap (λ (r : Rack). r.counts) en
+            ∙ ap (λ (cs : List Counts). change_place one_more_spent cs t.master) shown.counts
+            ∙ one-place (answered c.boards t.answers) t.master
+            ∙ ap (map counts_from) (sym (answered-swap t.answers c.boards t.master));
       };
       memory = s.memory;
       numbers = s.numbers;
-      raised = marks-answered t.answers (change_place spent c.boards t.master) p.requests.raised (mark-kept spent (λ q. refl) c.boards p.requests.raised t.master s.raised);
-      places = s.places ∙ sym (answered-places t.answers (change_place spent c.boards t.master) ∙ kept-place (λ (q : Progress). q.place) spent (λ q. refl) c.boards t.master);
+      raised =
+          marks-answered t.answers (change_place spent c.boards t.master) p.requests.raised
+          (mark-kept spent (λ q. refl) c.boards p.requests.raised t.master s.raised);
+      places =
+          s.places
+          ∙ sym (answered-places t.answers (change_place spent c.boards t.master)
+          ∙ kept-place (λ (q : Progress). q.place) spent (λ q. refl) c.boards t.master);
       phase = ep;
     }
 
 -- ---- the data phase
 
 kept-put-places : (here held : Bool) (c : Configuration) (b l : ℕ) (state : State) (words : List ℕ)
-    → map (λ (q : Progress). q.place) (cond here (change_copy c b l state words) (cond held (fill_copy c b l state words) c)).boards ≡ map (λ (q : Progress). q.place) c.boards
+    → map (λ (q : Progress). q.place)
+    (cond here (change_copy c b l state words) (cond held (fill_copy c b l state words) c)).boards
+    ≡ map (λ (q : Progress). q.place) c.boards
 kept-put-places true held c b l state words = refl
 kept-put-places false true c b l state words = kept-place (λ (q : Progress). q.place) filled (λ q. refl) c.boards b
 kept-put-places false false c b l state words = refl
 
 kept-put-marks : (here held : Bool) (c : Configuration) (b l : ℕ) (state : State) (words : List ℕ) (marks : List Bool)
-    → MarksFit c.boards marks → MarksFit (cond here (change_copy c b l state words) (cond held (fill_copy c b l state words) c)).boards marks
+    → MarksFit c.boards marks
+    → MarksFit (cond here (change_copy c b l state words) (cond held (fill_copy c b l state words) c)).boards marks
 kept-put-marks true held c b l state words marks fit = fit
 kept-put-marks false true c b l state words marks fit = mark-kept filled (λ q. refl) c.boards marks b fit
 kept-put-marks false false c b l state words marks fit = fit
 
-remembered-boards : (takes : Bool) (c : Configuration) (l : ℕ) (words : List ℕ) → (cond takes (put_memory c l words) c).boards ≡ c.boards
+remembered-boards :
+    (takes : Bool) (c : Configuration) (l : ℕ) (words : List ℕ)
+    → (cond takes (put_memory c l words) c).boards ≡ c.boards
 remembered-boards true c l words = refl
 remembered-boards false c l words = refl
 
@@ -263,31 +352,47 @@ placed c e =
     put_copy answering e.master e.line (state_of_master e) (master_words c e)
 
 abbrev answering_part : Configuration → Carried → Configuration
-answering_part c e = change_rows (answering_row e) (if e.takers.memory then put_memory c e.line (memory_words c e) else c)
+answering_part c e =
+    change_rows (answering_row e) (if e.takers.memory then put_memory c e.line (memory_words c e) else c)
 
-placed-places : (c : Configuration) (e : Carried) → map (λ (q : Progress). q.place) (placed c e).boards ≡ map (λ (q : Progress). q.place) c.boards
+placed-places :
+    (c : Configuration) (e : Carried)
+    → map (λ (q : Progress). q.place) (placed c e).boards ≡ map (λ (q : Progress). q.place) c.boards
 placed-places c e =
-    kept-put-places (has_row (answering_part c e).rows e.master e.line) (holds (state_of_master e)) (answering_part c e) e.master e.line (state_of_master e) (master_words c e)
+    kept-put-places (has_row (answering_part c e).rows e.master e.line) (holds (state_of_master e)) (answering_part c e)
+    e.master e.line (state_of_master e) (master_words c e)
     ∙ ap (map (λ (q : Progress). q.place)) (remembered-boards e.takers.memory c e.line (memory_words c e))
 
-placed-marks : (c : Configuration) (e : Carried) (marks : List Bool) → MarksFit c.boards marks → MarksFit (placed c e).boards marks
+placed-marks :
+    (c : Configuration) (e : Carried) (marks : List Bool) → MarksFit c.boards marks → MarksFit (placed c e).boards marks
 placed-marks c e marks fit =
-    kept-put-marks (has_row (answering_part c e).rows e.master e.line) (holds (state_of_master e)) (answering_part c e) e.master e.line (state_of_master e) (master_words c e) marks
+    kept-put-marks (has_row (answering_part c e).rows e.master e.line) (holds (state_of_master e)) (answering_part c e)
+    e.master e.line (state_of_master e) (master_words c e) marks
     (rw (remembered-boards e.takers.memory c e.line (memory_words c e)) fit)
 
-data-marks-by : (d : Option Done) (c : Configuration) (b : ℕ) (marks : List Bool) → MarksFit c.boards marks → MarksFit (complete_if d c b).boards marks
+data-marks-by :
+    (d : Option Done) (c : Configuration) (b : ℕ) (marks : List Bool) → MarksFit c.boards marks
+    → MarksFit (complete_if d c b).boards marks
 data-marks-by None c b marks fit = fit
 data-marks-by (Some done) c b marks fit = mark-kept completed (λ q. refl) c.boards marks b fit
 
-data-places-by : (d : Option Done) (c : Configuration) (b : ℕ) → map (λ (q : Progress). q.place) (complete_if d c b).boards ≡ cond (is_some d) (change_place suc (map (λ (q : Progress). q.place) c.boards) b) (map (λ (q : Progress). q.place) c.boards)
+data-places-by :
+    (d : Option Done) (c : Configuration) (b : ℕ)
+    → map (λ (q : Progress). q.place) (complete_if d c b).boards
+    ≡ cond (is_some d) (change_place suc (map (λ (q : Progress). q.place) c.boards) b)
+    (map (λ (q : Progress). q.place) c.boards)
 data-places-by None c b = refl
 data-places-by (Some done) c b = map-place (λ (q : Progress). q.place) completed suc (λ q. refl) c.boards b
 
 -- The data of a transaction that have moved.
-pub shown-data : (setup : Setup) (c : Configuration) (p : Parts) (rack : Rack) (words : List ℕ) (places : Vec ℕ) (phase : Phase) (e : Carried)
+pub shown-data :
+    (setup : Setup) (c : Configuration) (p : Parts) (rack : Rack) (words : List ℕ) (places : Vec ℕ) (phase : Phase)
+    (e : Carried)
     → rack.tables ≡ p.rack.tables → rack.specs ≡ p.rack.specs → Shows (after_data c e) rack words
-    → places.items ≡ cond (is_some e.done) (change_place suc p.places.items e.master) p.places.items → phase_of phase ≡ model.Idle
-    → PartsShow setup c p → PartsShow setup (after_data c e) (record p { rack = rack; memory = words; places = places; phase = phase })
+    → places.items ≡ cond (is_some e.done) (change_place suc p.places.items e.master) p.places.items
+    → phase_of phase ≡ model.Idle
+    → PartsShow setup c p
+    → PartsShow setup (after_data c e) (record p { rack = rack; memory = words; places = places; phase = phase })
 shown-data setup c p rack words places phase e et eb shows en ep s = record {
   tables = et ∙ s.tables;
   boards = eb ∙ s.boards;
@@ -296,7 +401,9 @@ shown-data setup c p rack words places phase e et eb shows en ep s = record {
   numbers = s.numbers;
   raised = data-marks-by e.done (placed c e) e.master p.requests.raised (placed-marks c e p.requests.raised s.raised);
   places =
-      en ∙ ap (λ (ns : List ℕ). cond (is_some e.done) (change_place suc ns e.master) ns) (s.places ∙ sym (placed-places c e))
+      en
+      ∙ ap (λ (ns : List ℕ). cond (is_some e.done) (change_place suc ns e.master) ns)
+      (s.places ∙ sym (placed-places c e))
       ∙ sym (data-places-by e.done (placed c e) e.master);
   phase = ep;
 }

@@ -10,7 +10,8 @@ use Rattle.backplane.specs.Parts.{PartsShow}
 
 module _ (setup : Setup) (c : Configuration) (parts : Parts) (shows : PartsShow setup c parts) where
   pub number_shown : (board : ℕ) → number_of (setup_of parts.rack) board ≡ number_of setup board
-  number_shown board = λ i. number_of (record { memory = []; tables = shows.tables i; boards = shows.boards i; scripts = [] }) board
+  number_shown board =
+      λ i. number_of (record { memory = []; tables = shows.tables i; boards = shows.boards i; scripts = [] }) board
 
   pub state_shown : (board line : ℕ) → state_at parts.rack.rows board line ≡ state_at c.rows board line
   state_shown board line = ap (λ rows. state_at rows board line) shows.rack.rows
@@ -18,5 +19,10 @@ module _ (setup : Setup) (c : Configuration) (parts : Parts) (shows : PartsShow 
   pub words_shown : (board line : ℕ) → words_at parts.rack.rows board line ≡ words_at c.rows board line
   words_shown board line = ap (λ rows. words_at rows board line) shows.rack.rows
 
-  pub cell_shown : (board : ℕ) (access : Access) → cell_of (setup_of parts.rack) parts.rack.rows board access ≡ cell_of setup c.rows board access
-  cell_shown board access = λ i. cell_of (record { memory = []; tables = shows.tables i; boards = shows.boards i; scripts = [] }) (shows.rack.rows i) board access
+  pub cell_shown :
+      (board : ℕ) (access : Access)
+      → cell_of (setup_of parts.rack) parts.rack.rows board access ≡ cell_of setup c.rows board access
+  cell_shown board access =
+      λ i.
+      cell_of (record { memory = []; tables = shows.tables i; boards = shows.boards i; scripts = [] })
+      (shows.rack.rows i) board access

@@ -16,7 +16,8 @@ script_lengths setup = map (λ (script : List Access). length script) setup.scri
 abbrev pub table_at : List Table → ℕ → Table
 table_at tables place = slice_index_or tables place (empty_table [])
 
--- The first of these tables that is not in the class is at this place, from 0, and these are its faults.
+-- The first of these tables that is not in the class is at this place, from 0, and these are its
+-- faults.
 pub record FirstRefused (tables : List Table) (index : ℕ) (verdict : List CellFault) : Type 0 where
   pub there : index < length tables
   pub first : (earlier : ℕ) → earlier < index → InClass (table_at tables earlier)
@@ -30,5 +31,6 @@ IsRefused tables NoMemory = Unit {0}
 
 -- A table at this place is told with its faults where it is not in the class.
 abbrev pub RefusedAt : Table → ℕ → AssembleFault → Type 0
-RefusedAt table place (TableRefused index verdict) = (index ≡ place) × (verdict ≡ faults table) × ¬ (InClass table)
+RefusedAt table place (TableRefused index verdict) =
+    (index ≡ place) × (verdict ≡ faults table) × ¬ (InClass table)
 RefusedAt table place NoMemory = Unit {0}

@@ -25,14 +25,23 @@ room_of histories board = unwrap_or (at_place histories.rooms board) 0
 
 -- One more entry of a board.
 abbrev pub added : Histories → ℕ → Entry → Histories
-added histories board entry = record { entries = change_place (λ list. list ++ entry ∷ []) histories.entries board; rooms = histories.rooms }
+added histories board entry =
+    record {
+      entries = change_place (λ list. list ++ entry ∷ []) histories.entries board;
+      rooms = histories.rooms;
+    }
 
 -- The entry of a completed access, if there is one.
 abbrev pub kept : Histories → ℕ → ℕ → Option Done → Histories
 kept histories board place None = histories
-kept histories board place (Some done) = added histories board (record { board = board; place = place; access = done.access; reply = done.reply })
+kept histories board place (Some done) =
+    added histories board
+    (record { board = board; place = place; access = done.access; reply = done.reply })
 
--- The histories keep what these events of a setup completed, with room for each board's whole script.
-pub record HistoriesKeep (setup : Setup) (events : List Event) (histories : Histories) : Type 0 where
-  pub entries : histories.entries ≡ map (λ board. entries_of board (entries events)) (board_places setup)
-  pub rooms : histories.rooms ≡ map (λ (script : List Access). length script) setup.scripts
+-- The histories keep what these events of a setup completed, with room for each board's whole
+-- script.
+pub record HistoriesKeep (setup : Setup) (events : List Event) (histories : Histories) : Type 0
+  where
+    pub entries :
+        histories.entries ≡ map (λ board. entries_of board (entries events)) (board_places setup)
+    pub rooms : histories.rooms ≡ map (λ (script : List Access). length script) setup.scripts

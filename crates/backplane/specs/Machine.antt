@@ -1,4 +1,5 @@
--- The machine, as contracts see it: its setup and what has happened. Its configuration is the one that these two give.
+-- The machine, as contracts see it: its setup and what has happened. Its configuration is the one
+-- that these two give.
 use Rattle.std.specs.Prelude.{ℕ, ◌≤◌, List, [], ◌∷◌, ◌++◌, length}
 use Rattle.bus_model.specs.Setup.{Setup}
 use Rattle.bus_model.specs.Events.{Event}

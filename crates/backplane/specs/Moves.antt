@@ -16,7 +16,8 @@ told (Did event) = Moved.Did
 told (Waits why) = Moved.Waits (cause why)
 told Finished = Moved.Finished
 
--- The machine after a turn: an event is added to the journal, and a turn that does none changes nothing.
+-- The machine after a turn: an event is added to the journal, and a turn that does none changes
+-- nothing.
 abbrev pub moved : Machine → Turn → Machine
 moved machine (Did event) = happened machine event
 moved machine (Waits why) = machine
@@ -28,7 +29,11 @@ turn_of machine board = turn machine.setup (configuration machine) board
 
 -- The machine after turns of these boards, one after another.
 abbrev pub after_turns : Machine → List ℕ → Machine
-after_turns machine boards = record { setup = machine.setup; journal = machine.journal ++ events_of_turns machine.setup (configuration machine) boards }
+after_turns machine boards =
+    record {
+      setup = machine.setup;
+      journal = machine.journal ++ events_of_turns machine.setup (configuration machine) boards;
+    }
 
 -- How many events a turn came to.
 abbrev pub events_told : Moved → ℕ

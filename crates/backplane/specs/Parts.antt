@@ -25,7 +25,9 @@ MarksFit [] marks = Unit {0}
 MarksFit (p ∷ boards) [] = ⊥
 MarksFit (p ∷ boards) (mark ∷ marks) = (mark ≡ p.raised) × MarksFit boards marks
 
--- The parts are of a setup and show a configuration: the rack has its tables, boards, rows and counts, memory its words, the arbiter its numbers and requests, and the rest its places and its phase.
+-- The parts are of a setup and show a configuration: the rack has its tables, boards, rows and
+-- counts, memory its words, the arbiter its numbers and requests, and the rest its places and its
+-- phase.
 pub record PartsShow (setup : Setup) (c : Configuration) (parts : Parts) : Type 0 where
   pub tables : parts.rack.tables ≡ setup.tables
   pub boards : parts.rack.specs ≡ setup.boards
@@ -54,12 +56,15 @@ pub record CountsAreLow (parts : Parts) : Type 0 where
   pub counts : CountsFit parts.rack.counts
   pub places : PlacesFit parts.places.items
 
--- The data of a transaction can move: its line is in memory, its answers are of other boards, and its master has a row of the line or room for one, where it is to have one.
+-- The data of a transaction can move: its line is in memory, its answers are of other boards, and
+-- its master has a row of the line or room for one, where it is to have one.
 pub record CanCarry (parts : Parts) (t : Transaction) : Type 0 where
   pub master : IsPartOf parts t.master
   pub line : 4 * t.line < length parts.memory
   pub others : AreOthers parts.rack t.master t.answers
-  pub room : IsFalse (has_row parts.rack.rows t.master t.line) → IsTrue (holds (master_state t)) → IsTrue (can_fill (setup_of parts.rack) parts.rack.rows t.master t.line)
+  pub room :
+      IsFalse (has_row parts.rack.rows t.master t.line) → IsTrue (holds (master_state t))
+      → IsTrue (can_fill (setup_of parts.rack) parts.rack.rows t.master t.line)
 
 -- The transaction that is connected, where one is.
 abbrev pub connection_in : model.Phase → Option Transaction

@@ -17,7 +17,8 @@ use Rattle.board.specs.Rack.{Rack, setup_of}
 use Rattle.connect_phase.specs.Answering.{is_other_holder}
 
 -- The parts show a sound configuration of a setup, to which these events have led.
-pub record SoundParts (parts : Parts) (setup : Setup) (events : List Event) (c : Configuration) : Type 0 where
+pub record SoundParts (parts : Parts) (setup : Setup) (events : List Event) (c : Configuration) :
+    Type 0 where
   pub fits : WellFormed setup
   pub sound : Sound setup events c
   pub shows : PartsShow setup c parts
@@ -41,14 +42,18 @@ Tells parts event answer = TellsWhether parts (λ setup c. Can setup c event) an
 abbrev pub TellsFor : Parts → ℕ → Access → Event → Bool → Type 0
 TellsFor parts board access event answer =
     (setup : Setup) (events : List Event) (c : Configuration)
-    → SoundParts parts setup events c → present_access setup c.boards board ≡ Some access → (IsTrue answer ↔ Can setup c event)
+    → SoundParts parts setup events c → present_access setup c.boards board ≡ Some access
+    → (IsTrue answer ↔ Can setup c event)
 
--- Whether an answer is one of a board, and an alternative of its cell for its state on the line and the event.
+-- Whether an answer is one of a board, and an alternative of its cell for its state on the line and
+-- the event.
 abbrev pub does_answer_fit : Setup → List Row → ℕ → BusEvent → ℕ → Answer → Bool
 does_answer_fit setup rows line event board a =
-    a.board == board && has_answer (answers_of (table_of setup board) (state_at rows board line) event) a.action
+    a.board == board
+    && has_answer (answers_of (table_of setup board) (state_at rows board line) event) a.action
 
--- Whether each of these boards has one answer, in this order, and it is an alternative of the board's cell for its state on the line and the event.
+-- Whether each of these boards has one answer, in this order, and it is an alternative of the
+-- board's cell for its state on the line and the event.
 abbrev pub do_answers_fit : Setup → List Row → ℕ → BusEvent → List ℕ → List Answer → Bool
 do_answers_fit setup rows line event [] [] = true
 do_answers_fit setup rows line event (board ∷ boards) (a ∷ answers) =
@@ -57,12 +62,15 @@ do_answers_fit setup rows line event (board ∷ boards) (a ∷ answers) =
 do_answers_fit setup rows line event [] (a ∷ answers) = false
 do_answers_fit setup rows line event (board ∷ boards) [] = false
 
--- Whether these answers to a transaction are those of the boards of a list that hold its line, but for the master.
+-- Whether these answers to a transaction are those of the boards of a list that hold its line, but
+-- for the master.
 abbrev pub do_fit_among : Rack → Transaction → List ℕ → List Answer → Bool
 do_fit_among rack t boards answers =
-    do_answers_fit (setup_of rack) rack.rows t.line t.event (filter (is_other_holder rack.rows t.master t.line) boards) answers
+    do_answers_fit (setup_of rack) rack.rows t.line t.event
+    (filter (is_other_holder rack.rows t.master t.line) boards) answers
 
--- Whether a contest of these numbers, of which there is one at least, is won by a number, and settles to these lines in this many rounds.
+-- Whether a contest of these numbers, of which there is one at least, is won by a number, and
+-- settles to these lines in this many rounds.
 abbrev pub does_settle : List ℕ → ℕ → ℕ → ℕ → Bool
 does_settle [] number lines rounds = false
 does_settle (n ∷ rest) number lines rounds =

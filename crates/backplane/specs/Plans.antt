@@ -18,6 +18,7 @@ planned setup c board Plan.Finish = Finished
 planned setup c board (Plan.Wait why) = Waits (waits_for why)
 planned setup c board (Plan.Settle before state done) = Did (Local board before state done)
 planned setup c board (Plan.Drop line before) = Did (Drop board line before)
-planned setup c board (Plan.Connect line event outcome) = Did (Connect (transaction_of setup c board line event outcome))
+planned setup c board (Plan.Connect line event outcome) =
+    Did (Connect (transaction_of setup c board line event outcome))
 planned setup c board Plan.Raise = Did (Raise board)
 planned setup c board (Plan.Grant winner lines rounds) = Did (Grant board winner lines rounds)

@@ -9,8 +9,11 @@ use Rattle.backplane.specs.Needs.{needed}
 use Rattle.backplane.specs.Parts.{PartsShow}
 use Rattle.backplane.specs.Histories.{Histories, HistoriesKeep}
 
--- A machine with this journal stands where the journal is a run of an accepted setup, its parts show the configuration to which the run leads, its histories keep what the run completed, and the journal has the room that the setup needs.
-pub record Stands (setup : Setup) (events : List Event) (capacity : ℕ) (p : Parts) (h : Histories) : Type 0 where
+-- A machine with this journal stands where the journal is a run of an accepted setup, its parts
+-- show the configuration to which the run leads, its histories keep what the run completed, and the
+-- journal has the room that the setup needs.
+pub record Stands (setup : Setup) (events : List Event) (capacity : ℕ) (p : Parts) (h : Histories) :
+    Type 0 where
   pub fits : WellFormed setup
   pub accepted : AllInClass setup
   pub run : Run setup events (configuration_after setup events)

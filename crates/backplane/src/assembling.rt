@@ -27,8 +27,8 @@ use setup::Setup;
 use std::alloc::Global;
 use table_check::{AcceptFault, Accepted, BoardSpec, Verdict, accept};
 
-/// Why no machine was made: a table is not in the class, named by its place in the setup's list from 0, or there was no
-/// memory.
+/// Why no machine was made: a table is not in the class, named by its place in the setup's list
+/// from 0, or there was no memory.
 #[derive(Drop)]
 pub enum AssembleFault {
     TableRefused { table: u32, verdict: Verdict },
@@ -107,7 +107,8 @@ fn rack(alloc: Global, boards: &[BoardSpec], tables: Vec<Accepted>) -> Result<Ra
 
 /// The numbers with which the boards compete.
 fn numbers(alloc: Global, boards: &[BoardSpec]) -> Result<Vec<u16>, NoMemory>
-    ensures { IfOk result (λ numbers. numbers.items ≡ map (λ (spec : BoardSpec). spec.number) boards.now) }
+    ensures { IfOk result
+        (λ numbers. numbers.items ≡ map (λ (spec : BoardSpec). spec.number) boards.now) }
 {
     let mut numbers = Vec::new(alloc);
     for board in boards {
@@ -171,7 +172,8 @@ fn parts(alloc: Global, setup: &Setup, tables: Vec<Accepted>) -> Result<Parts, N
     })
 }
 
-/// The machine of a setup, at its opening. All memory of its life is taken here, and `need` tells how much.
+/// The machine of a setup, at its opening. All memory of its life is taken here, and `need` tells
+/// how much.
 pub fn assemble(alloc: Global, setup: Setup) -> Result<Machine, AssembleFault>
     ensures opening { IfOk result (λ machine. machine ≡ opened setup) }
     ensures accepted { IfOk result (λ machine. AllInClass setup) }

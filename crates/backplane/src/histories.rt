@@ -12,8 +12,8 @@ use no_memory::NoMemory;
 use std::alloc::Global;
 use std::marker::Model;
 
-/// The completed accesses of each board. Contracts see a list for each board, with the number of entries that it has room
-/// for.
+/// The completed accesses of each board. Contracts see a list for each board, with the number of
+/// entries that it has room for.
 #[derive(Drop)]
 pub struct Histories {
     lists: Vec<Vec<Entry>>,
@@ -32,8 +32,11 @@ impl Model for Histories {
 /// Adds an item to one of these lists.
 fn push_at<T: Copy + Drop>(lists: &mut Vec<Vec<T>>, place: usize, item: T)
     requires there { place < length lists.old.items }
-    requires room { length (slice_index_or (rows lists.old.items) place []) < slice_index_or (rooms lists.old.items) place 0 }
-    ensures items { rows lists.new.items ≡ slice_set (rows lists.old.items) place (slice_index_or (rows lists.old.items) place [] ++ item ∷ []) }
+    requires room { length (slice_index_or (rows lists.old.items) place [])
+        < slice_index_or (rooms lists.old.items) place 0 }
+    ensures items { rows lists.new.items
+        ≡ slice_set (rows lists.old.items) place
+        (slice_index_or (rows lists.old.items) place [] ++ item ∷ []) }
     ensures rooms { rooms lists.new.items ≡ rooms lists.old.items }
 {
     let list = &mut lists[place];
@@ -71,7 +74,8 @@ impl Histories {
     pub fn keep(&mut self, board: BoardNo, place: u32, done: &Option<Done>)
         requires low { 1 ≤ board }
         requires high { board ≤ length self.old.entries }
-        requires room { IsSome done.now → length (history_of self.old board) < room_of self.old board }
+        requires room { IsSome done.now
+            → length (history_of self.old board) < room_of self.old board }
         ensures { self.new ≡ kept self.old board place done.now }
     {
         if let Some(done) = done {

@@ -20,8 +20,8 @@ mod rounds;
 
 pub use applying::NotARun;
 
-/// A machine that runs a setup of accepted tables. Contracts see its setup and its journal; its configuration is the one
-/// that these two give.
+/// A machine that runs a setup of accepted tables. Contracts see its setup and its journal; its
+/// configuration is the one that these two give.
 #[derive(Drop)]
 pub struct Machine {
     setup: Setup,

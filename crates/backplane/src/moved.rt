@@ -2,7 +2,8 @@
 
 use bus_signals::{BoardNo, LineNo};
 
-/// Why a board waits: a transaction of another board is connected on the line, or another board has the bus.
+/// Why a board waits: a transaction of another board is connected on the line, or another board has
+/// the bus.
 #[derive(Clone, Copy, Debug, PartialEq, Eq)]
 pub enum Why {
     Line { master: BoardNo, line: LineNo },

@@ -33,8 +33,9 @@ fn frames_of(boards: &[BoardSpec]) -> u32
     frames
 }
 
-/// What `assemble` reserves for the machine of a setup, which no run of the setup passes: eight events and one reply for
-/// each access, and a frame for each way of each set. It takes no memory and refuses nothing.
+/// What `assemble` reserves for the machine of a setup, which no run of the setup passes: eight
+/// events and one reply for each access, and a frame for each way of each set. It takes no memory
+/// and refuses nothing.
 pub fn need(setup: &Setup) -> Need
     ensures { result ≡ needed setup.now }
 {

@@ -27,8 +27,8 @@ use journal::{Carried, Connected, Done};
 use memory_board::MemoryBoard;
 use moesi_state::{Outcome, State};
 
-/// The boards with their rows, the memory, the requests for the bus, the phase of the bus with the transaction that is
-/// connected, and how many accesses each board has completed.
+/// The boards with their rows, the memory, the requests for the bus, the phase of the bus with the
+/// transaction that is connected, and how many accesses each board has completed.
 #[derive(Drop)]
 pub struct Parts {
     pub rack: Rack,
@@ -63,7 +63,8 @@ fn complete_if(completes: bool, places: &mut Vec<u32>, board: BoardNo)
     requires low { 1 ≤ board }
     requires high { board ≤ length places.old.items }
     requires fit { PlacesFit places.old.items }
-    ensures { places.new.items ≡ (if completes then change_place suc places.old.items board else places.old.items) }
+    ensures { places.new.items
+        ≡ (if completes then change_place suc places.old.items board else places.old.items) }
 {
     if completes {
         complete(places, board);
@@ -82,7 +83,8 @@ impl Parts {
     /// A board raises a request.
     pub fn raise(&mut self, board: BoardNo)
         requires { IsPartOf self.old board }
-        ensures { (setup : Setup) (c : Configuration) → PartsShow setup c self.old → PartsShow setup (ask Bool.true c board) self.new }
+        ensures { (setup : Setup) (c : Configuration) → PartsShow setup c self.old
+            → PartsShow setup (ask Bool.true c board) self.new }
     {
         self.requests.raise(board);
     }
@@ -90,7 +92,8 @@ impl Parts {
     /// The bus is granted to a board, and its request is lowered.
     pub fn grant(&mut self, winner: BoardNo)
         requires { IsPartOf self.old winner }
-        ensures { (setup : Setup) (c : Configuration) → PartsShow setup c self.old → PartsShow setup (in_phase (model.Granted winner) (ask Bool.false c winner)) self.new }
+        ensures { (setup : Setup) (c : Configuration) → PartsShow setup c self.old
+            → PartsShow setup (in_phase (model.Granted winner) (ask Bool.false c winner)) self.new }
     {
         self.requests.lower(winner);
         self.phase = Phase::Granted(winner);
@@ -99,7 +102,8 @@ impl Parts {
     /// A board gives up its row of a line.
     pub fn give_up(&mut self, board: BoardNo, line: LineNo)
         requires { IsPartOf self.old board }
-        ensures { (setup : Setup) (c : Configuration) → PartsShow setup c self.old → PartsShow setup (drop_copy c board line) self.new }
+        ensures { (setup : Setup) (c : Configuration) → PartsShow setup c self.old
+            → PartsShow setup (drop_copy c board line) self.new }
     {
         self.rack.change(board, line, State::I, Change::Keep);
     }
@@ -108,8 +112,11 @@ impl Parts {
     pub fn settle(&mut self, board: BoardNo, state: State, done: &Done)
         requires board { IsPartOf self.old board }
         requires counts { CountsAreLow self.old }
-        requires room { let line = access_line done.now.access in IsFalse (has_row self.old.rack.rows board line) → IsTrue (holds state) → IsTrue (can_fill (setup_of self.old.rack) self.old.rack.rows board line) }
-        ensures { (setup : Setup) (c : Configuration) → PartsShow setup c self.old → PartsShow setup (after_local c board state done.now) self.new }
+        requires room { let line = access_line done.now.access in
+            IsFalse (has_row self.old.rack.rows board line) → IsTrue (holds state)
+            → IsTrue (can_fill (setup_of self.old.rack) self.old.rack.rows board line) }
+        ensures { (setup : Setup) (c : Configuration) → PartsShow setup c self.old
+            → PartsShow setup (after_local c board state done.now) self.new }
     {
         let line = done.access.addr().line();
         let words = written(&done.access, copy_words(&self.rack, board, line));
@@ -122,19 +129,22 @@ impl Parts {
         }
     }
 
-    /// A transaction is connected, with these answers: its master and each answering board spend a draw.
+    /// A transaction is connected, with these answers: its master and each answering board spend a
+    /// draw.
     pub fn latch(&mut self, connected: &Connected)
         requires master { IsPartOf self.old connected.now.master }
         requires answers { AllAreBoards self.old.rack connected.now.answers }
         requires counts { CountsAreLow self.old }
-        ensures { (setup : Setup) (c : Configuration) → PartsShow setup c self.old → PartsShow setup (after_connect c connected.now) self.new }
+        ensures { (setup : Setup) (c : Configuration) → PartsShow setup c self.old
+            → PartsShow setup (after_connect c connected.now) self.new }
     {
         spend_all(&mut self.rack, connected.answers.items());
         self.rack.spend(connected.master);
         self.phase = Phase::Connected(connected.copy());
     }
 
-    /// A board connects a transaction, and each other board with a row of the line answers as it picks.
+    /// A board connects a transaction, and each other board with a row of the line answers as it
+    /// picks.
     pub fn connect(
         &mut self,
         master: BoardNo,
@@ -144,8 +154,10 @@ impl Parts {
     ) -> Connected
         requires master { IsPartOf self.old master }
         requires counts { CountsAreLow self.old }
-        ensures picks { (setup : Setup) (c : Configuration) → PartsShow setup c self.old → result ≡ transaction_of setup c master line event outcome }
-        ensures shows { (setup : Setup) (c : Configuration) → PartsShow setup c self.old → PartsShow setup (after_connect c result) self.new }
+        ensures picks { (setup : Setup) (c : Configuration) → PartsShow setup c self.old
+            → result ≡ transaction_of setup c master line event outcome }
+        ensures shows { (setup : Setup) (c : Configuration) → PartsShow setup c self.old
+            → PartsShow setup (after_connect c result) self.new }
     {
         let connected = connect(&mut self.rack, master, line, event, outcome);
         self.rack.spend(master);
@@ -153,12 +165,15 @@ impl Parts {
         connected
     }
 
-    /// Moves the data of a transaction that was connected. `access` is the present access of its master.
+    /// Moves the data of a transaction that was connected. `access` is the present access of its
+    /// master.
     pub fn carry(&mut self, connected: &Connected, access: Option<Access>) -> Carried
         requires can { CanCarry self.old connected.now }
         requires counts { CountsAreLow self.old }
-        ensures carried { (setup : Setup) (c : Configuration) → PartsShow setup c self.old → result ≡ carried_for c connected.now access }
-        ensures shows { (setup : Setup) (c : Configuration) → PartsShow setup c self.old → PartsShow setup (after_data c result) self.new }
+        ensures carried { (setup : Setup) (c : Configuration) → PartsShow setup c self.old
+            → result ≡ carried_for c connected.now access }
+        ensures shows { (setup : Setup) (c : Configuration) → PartsShow setup c self.old
+            → PartsShow setup (after_data c result) self.new }
     {
         let access = served(access, connected.line);
         let carried = transfer(&mut self.rack, &mut self.memory, connected, access);

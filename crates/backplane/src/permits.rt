@@ -1,4 +1,5 @@
-//! Whether an event may happen: a test of each fact that the model asks for, for each kind of event.
+//! Whether an event may happen: a test of each fact that the model asks for, for each kind of
+//! event.
 
 mod answering;
 mod cell;

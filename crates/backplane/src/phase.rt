@@ -47,7 +47,8 @@ impl Phase {
         }
     }
 
-    /// The master that holds a line from a board: another board, whose transaction is connected on the line.
+    /// The master that holds a line from a board: another board, whose transaction is connected on
+    /// the line.
     pub fn held_by(&self, board: BoardNo, line: LineNo) -> Option<BoardNo>
         ensures held { is_some result ≡ is_held (phase_of self.now) board line }
         ensures master { IfSome result (λ master. master ≡ bus_holder (phase_of self.now)) }

@@ -22,7 +22,8 @@ use data_phase::copy_words;
 use journal::Done;
 use moesi_state::{Outcome, State};
 
-/// What a board that is not connected is to do in its turn: nothing any more, nothing for now, or one of the events.
+/// What a board that is not connected is to do in its turn: nothing any more, nothing for now, or
+/// one of the events.
 #[derive(Clone, Copy, Debug, PartialEq, Eq)]
 pub enum Plan {
     Finish,
@@ -88,7 +89,10 @@ impl Parts {
     pub fn plan(&self, board: BoardNo, access: &Access) -> Plan
         requires board { IsPartOf self.now board }
         requires free { is_connected (phase_of self.now.phase) board ≡ false }
-        ensures { (setup : Setup) (events : List Event) (c : Configuration) → Sound setup events c → PartsShow setup c self.now → planned setup c board result ≡ access_turn setup c board access.now (own_transaction c.phase board) }
+        ensures { (setup : Setup) (events : List Event) (c : Configuration) → Sound setup events c
+            → PartsShow setup c self.now
+            → planned setup c board result
+            ≡ access_turn setup c board access.now (own_transaction c.phase board) }
     {
         let action = self.rack.decide(board, access.addr().line(), access.kind());
         match action.bus {
@@ -100,7 +104,8 @@ impl Parts {
     /// What a board is to do where its access needs no bus.
     fn plan_local(&self, board: BoardNo, access: &Access, after: State) -> Plan
         requires { IsPartOf self.now board }
-        ensures { (setup : Setup) (c : Configuration) → PartsShow setup c self.now → planned setup c board result ≡ local_turn setup c board access.now after }
+        ensures { (setup : Setup) (c : Configuration) → PartsShow setup c self.now
+            → planned setup c board result ≡ local_turn setup c board access.now after }
     {
         let line = access.addr().line();
         let before = self.rack.state_of(board, line);
@@ -126,7 +131,8 @@ impl Parts {
         outcome: Outcome,
     ) -> Option<(LineNo, State)>
         requires { IsPartOf self.now board }
-        ensures { (setup : Setup) (events : List Event) (c : Configuration) → Sound setup events c → PartsShow setup c self.now → result ≡ victim_for setup c board access.now outcome }
+        ensures { (setup : Setup) (events : List Event) (c : Configuration) → Sound setup events c
+            → PartsShow setup c self.now → result ≡ victim_for setup c board access.now outcome }
     {
         if leaves_no_copy(outcome) {
             return None;
@@ -146,7 +152,11 @@ impl Parts {
         outcome: Outcome,
     ) -> Plan
         requires { IsPartOf self.now board }
-        ensures { (setup : Setup) (events : List Event) (c : Configuration) → Sound setup events c → PartsShow setup c self.now → planned setup c board result ≡ transaction_turn setup c board access.now event outcome (victim_for setup c board access.now outcome) }
+        ensures { (setup : Setup) (events : List Event) (c : Configuration) → Sound setup events c
+            → PartsShow setup c self.now
+            → planned setup c board result
+            ≡ transaction_turn setup c board access.now event outcome
+            (victim_for setup c board access.now outcome) }
     {
         match self.victim_for(board, access, outcome) {
             None => self.plan_bus(board, access.addr().line(), event, outcome),
@@ -154,10 +164,13 @@ impl Parts {
         }
     }
 
-    /// What a board is to do with a victim: a clean one is dropped unless its line is held, and any other is flushed.
+    /// What a board is to do with a victim: a clean one is dropped unless its line is held, and any
+    /// other is flushed.
     fn plan_room(&self, board: BoardNo, line: LineNo, state: State) -> Plan
         requires { IsPartOf self.now board }
-        ensures { (setup : Setup) (events : List Event) (c : Configuration) → Sound setup events c → PartsShow setup c self.now → planned setup c board result ≡ room_turn setup c board line state (is_clean state) }
+        ensures { (setup : Setup) (events : List Event) (c : Configuration) → Sound setup events c
+            → PartsShow setup c self.now
+            → planned setup c board result ≡ room_turn setup c board line state (is_clean state) }
     {
         if !is_clean(state) {
             return self.plan_bus(board, line, BusEvent::Flu, Outcome::Fixed(State::I));
@@ -174,7 +187,10 @@ impl Parts {
     /// What a board is to do for a transaction: it connects it where the bus is granted to it.
     fn plan_bus(&self, board: BoardNo, line: LineNo, event: BusEvent, outcome: Outcome) -> Plan
         requires { IsPartOf self.now board }
-        ensures { (setup : Setup) (events : List Event) (c : Configuration) → Sound setup events c → PartsShow setup c self.now → planned setup c board result ≡ bus_turn setup c board line event outcome (is_granted c.phase board) }
+        ensures { (setup : Setup) (events : List Event) (c : Configuration) → Sound setup events c
+            → PartsShow setup c self.now
+            → planned setup c board result
+            ≡ bus_turn setup c board line event outcome (is_granted c.phase board) }
     {
         if self.phase.is_granted(board) {
             return Plan::Connect {
@@ -186,10 +202,14 @@ impl Parts {
         self.plan_request(board)
     }
 
-    /// What a board is to do for the bus: it raises a request, then grants the bus where it is idle, and else waits.
+    /// What a board is to do for the bus: it raises a request, then grants the bus where it is
+    /// idle, and else waits.
     fn plan_request(&self, board: BoardNo) -> Plan
         requires { IsPartOf self.now board }
-        ensures { (setup : Setup) (events : List Event) (c : Configuration) → Sound setup events c → PartsShow setup c self.now → planned setup c board result ≡ request_turn setup c board (is_raised c.boards board) c.phase }
+        ensures { (setup : Setup) (events : List Event) (c : Configuration) → Sound setup events c
+            → PartsShow setup c self.now
+            → planned setup c board result
+            ≡ request_turn setup c board (is_raised c.boards board) c.phase }
     {
         if !self.requests.raised(board) {
             return Plan::Raise;
@@ -207,7 +227,8 @@ impl Parts {
     fn plan_grant(&self, board: BoardNo) -> Plan
         requires board { IsPartOf self.now board }
         requires raised { has_raised self.now.requests board ≡ true }
-        ensures { (setup : Setup) (events : List Event) (c : Configuration) → Sound setup events c → PartsShow setup c self.now → planned setup c board result ≡ grant_turn setup c board }
+        ensures { (setup : Setup) (events : List Event) (c : Configuration) → Sound setup events c
+            → PartsShow setup c self.now → planned setup c board result ≡ grant_turn setup c board }
     {
         match self.requests.contest() {
             Some(grant) => Plan::Grant {

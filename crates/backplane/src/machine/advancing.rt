@@ -22,7 +22,8 @@ impl Machine {
     fn plan(&self, board: BoardNo) -> Plan
         requires board { IsBoard self.now board }
         requires free { is_connected (configuration self.now).phase board ≡ false }
-        ensures { planned self.now.setup (configuration self.now) board result ≡ turn_of self.now board }
+        ensures { planned self.now.setup (configuration self.now) board result
+            ≡ turn_of self.now board }
     {
         match self.present(board) {
             None => Plan::Finish,
@@ -32,9 +33,12 @@ impl Machine {
 
     /// Goes by a plan, where it is an event.
     fn go(&mut self, board: BoardNo, plan: Plan) -> Moved
-        requires { (event : Event) → planned self.old.setup (configuration self.old) board plan ≡ Did event → MayHappen self.old event }
+        requires { (event : Event)
+            → planned self.old.setup (configuration self.old) board plan ≡ Did event
+            → MayHappen self.old event }
         ensures told { result ≡ told (planned self.old.setup (configuration self.old) board plan) }
-        ensures machine { self.new ≡ moved self.old (planned self.old.setup (configuration self.old) board plan) }
+        ensures machine { self.new
+            ≡ moved self.old (planned self.old.setup (configuration self.old) board plan) }
     {
         match plan {
             Plan::Finish => Moved::Finished,
@@ -74,12 +78,14 @@ impl Machine {
         }
     }
 
-    /// A turn of a board: it does one event, or tells why it waits, or that its script is at its end.
+    /// A turn of a board: it does one event, or tells why it waits, or that its script is at its
+    /// end.
     pub fn advance(&mut self, board: BoardNo) -> Moved
         requires { IsBoard self.old board }
         ensures told { result ≡ told (turn_of self.old board) }
         ensures machine { self.new ≡ moved self.old (turn_of self.old board) }
-        ensures step { (event : Event) → turn_of self.old board ≡ Did event → MayHappen self.old event }
+        ensures step { (event : Event) → turn_of self.old board ≡ Did event
+            → MayHappen self.old event }
         ensures run { Run self.new.setup self.new.journal (configuration self.new) }
         ensures sound { Sound self.new.setup self.new.journal (configuration self.new) }
         ensures legal { Legal self.new.setup.memory (entries self.new.journal) }
@@ -98,7 +104,8 @@ impl Machine {
         requires { IsBoard self.old board }
         ensures told { result ≡ told (turn_of self.old board) }
         ensures machine { self.new ≡ moved self.old (turn_of self.old board) }
-        ensures step { (event : Event) → turn_of self.old board ≡ Did event → MayHappen self.old event }
+        ensures step { (event : Event) → turn_of self.old board ≡ Did event
+            → MayHappen self.old event }
     {
         if self.parts.phase.is_connected(board) {
             self.do_data();

@@ -24,7 +24,8 @@ pub struct NotARun;
 impl Machine {
     /// The access that a board is to do next. A board that is none of the machine's has none.
     fn next(&self, board: BoardNo) -> Option<Access>
-        ensures access { result ≡ present_access self.now.setup (configuration self.now).boards board }
+        ensures access { result
+            ≡ present_access self.now.setup (configuration self.now).boards board }
         ensures board { IsSome result → IsBoard self.now board }
     {
         if board.0 == 0 || board.0 > self.parts.rack.boards() {
@@ -115,8 +116,9 @@ impl Machine {
         }
     }
 
-    /// Does exactly this event, where it is a step from the present configuration, with whatever alternatives it takes. The
-    /// event may name any board and line. A refused event changes nothing.
+    /// Does exactly this event, where it is a step from the present configuration, with whatever
+    /// alternatives it takes. The event may name any board and line. A refused event changes
+    /// nothing.
     pub fn apply(&mut self, event: &Event) -> Result<(), NotARun>
         ensures exact { IsOk result ↔ MayHappen self.old event.now }
         ensures applied { OnOk result (self.new ≡ happened self.old event.now) }

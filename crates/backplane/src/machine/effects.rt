@@ -74,7 +74,8 @@ impl Machine {
         self.journal.push_reserved(Event::Connect(connected));
     }
 
-    /// A board connects a transaction, and each other board that holds the line answers as it picks.
+    /// A board connects a transaction, and each other board that holds the line answers as it
+    /// picks.
     pub(crate) fn do_connect_as_picked(
         &mut self,
         board: BoardNo,
@@ -82,8 +83,11 @@ impl Machine {
         event: BusEvent,
         outcome: Outcome,
     )
-        requires { MayHappen self.old (Event.Connect (transaction_of self.old.setup (configuration self.old) board line event outcome)) }
-        ensures { self.new ≡ happened self.old (Event.Connect (transaction_of self.old.setup (configuration self.old) board line event outcome)) }
+        requires { MayHappen self.old (Event.Connect
+            (transaction_of self.old.setup (configuration self.old) board line event outcome)) }
+        ensures { self.new
+            ≡ happened self.old (Event.Connect (transaction_of self.old.setup
+            (configuration self.old) board line event outcome)) }
     {
         let connected = self.parts.connect(board, line, event, outcome);
         self.journal.push_reserved(Event::Connect(connected));
@@ -92,7 +96,10 @@ impl Machine {
     /// The data of the transaction that is connected moves.
     pub(crate) fn do_data(&mut self)
         requires { (t : Transaction) × ((configuration self.old).phase ≡ Connection t) }
-        ensures { (t : Transaction) → (configuration self.old).phase ≡ Connection t → self.new ≡ happened self.old (Event.DataPhase (carried_of self.old.setup (configuration self.old) t)) }
+        ensures { (t : Transaction) → (configuration self.old).phase ≡ Connection t
+            → self.new
+            ≡ happened self.old
+            (Event.DataPhase (carried_of self.old.setup (configuration self.old) t)) }
     {
         let Some(connected) = self.parts.phase.connection() else {
             return;

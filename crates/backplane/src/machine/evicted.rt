@@ -94,7 +94,8 @@ fn two_writes(alloc: Global) -> Result<Setup, Fail> {
 }
 
 impl Machine {
-    /// The words of the only frame that a machine has, where a board has a copy. The frame is out then, and none is free.
+    /// The words of the only frame that a machine has, where a board has a copy. The frame is out
+    /// then, and none is free.
     fn only_frame(&self, board: BoardNo, line: LineNo) -> Option<[u32; 4]>
         requires { IsBoard self.now board }
     {

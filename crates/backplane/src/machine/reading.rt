@@ -34,8 +34,8 @@ impl Machine {
         self.parts.rack.boards()
     }
 
-    /// What has happened, in order. It is a run of the setup, so it is coherent at each of its events, and its reads got the
-    /// latest earlier writes.
+    /// What has happened, in order. It is a run of the setup, so it is coherent at each of its
+    /// events, and its reads got the latest earlier writes.
     pub fn journal(&self) -> &[Event]
         ensures journal { result.now ≡ self.now.journal }
         ensures setup { WellFormed self.now.setup }
@@ -75,7 +75,10 @@ impl Machine {
 
     /// The lowest board whose script is not at its end.
     pub fn unfinished(&self) -> Option<BoardNo>
-        ensures lowest { result ≡ find (λ board. is_some (present_access self.now.setup (configuration self.now).boards board)) (board_places self.now.setup) }
+        ensures lowest { result
+            ≡ find (λ board.
+            is_some (present_access self.now.setup (configuration self.now).boards board))
+            (board_places self.now.setup) }
         ensures none { IsNone result ↔ Complete self.now.setup (configuration self.now) }
     {
         for place in 0..self.parts.rack.boards() {
@@ -112,7 +115,9 @@ impl Machine {
     /// The state and the words of a board's copy of a line.
     pub fn copy(&self, board: BoardNo, line: LineNo) -> Option<(State, [u32; 4])>
         requires { IsBoard self.now board }
-        ensures copy { result ≡ option_map (λ (row : Row). (row.state, row.words)) (row_at (configuration self.now).rows board line) }
+        ensures copy { result
+            ≡ option_map (λ (row : Row). (row.state, row.words))
+            (row_at (configuration self.now).rows board line) }
         ensures none { IsNone result ↔ (state_at (configuration self.now).rows board line ≡ I) }
     {
         let Some(words) = self.parts.rack.words(board, line) else {

@@ -22,11 +22,13 @@ fn events_of(moved: Moved) -> u8
 }
 
 impl Machine {
-    /// Gives each board one turn, in order, and answers how many of them did an event. While some board has an access to do,
-    /// that is at least one.
+    /// Gives each board one turn, in order, and answers how many of them did an event. While some
+    /// board has an access to do, that is at least one.
     pub fn round(&mut self) -> u8
         ensures turns { self.new ≡ after_turns self.old (board_places self.old.setup) }
-        ensures count { result ≡ length (events_of_turns self.old.setup (configuration self.old) (board_places self.old.setup)) }
+        ensures count { result
+            ≡ length (events_of_turns self.old.setup (configuration self.old)
+            (board_places self.old.setup)) }
         ensures goes_on { (Complete self.old.setup (configuration self.old) → ⊥) → 1 ≤ result }
     {
         let _journal = self.journal();

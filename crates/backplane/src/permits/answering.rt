@@ -25,7 +25,9 @@ fn may_answer(
     action: SnoopAction,
 ) -> bool
     requires { IsBoard rack.now board }
-    ensures { result ≡ has_answer (answers_of (table_of (setup_of rack.now) board) (state_at rack.now.rows board line) event) action }
+    ensures { result
+        ≡ has_answer (answers_of (table_of (setup_of rack.now) board)
+        (state_at rack.now.rows board line) event) action }
 {
     let state = rack.state_of(board, line);
     has_answer(rack.table(board).snoop(state, event), &action)
@@ -40,21 +42,28 @@ fn does_answer_fit(
     answer: &Answer,
 ) -> bool
     requires { IsBoard rack.now board }
-    ensures { result ≡ does_answer_fit (setup_of rack.now) rack.now.rows line event board answer.now }
+    ensures { result
+        ≡ does_answer_fit (setup_of rack.now) rack.now.rows line event board answer.now }
 {
     let own = is_board(answer.board, board);
     let alternative = may_answer(rack, line, event, board, answer.action);
     own && alternative
 }
 
-/// How many answers are taken after a board's turn to answer, if these many were before: one more where the board holds the
-/// line and the next answer is one that it may give.
+/// How many answers are taken after a board's turn to answer, if these many were before: one more
+/// where the board holds the line and the next answer is one that it may give.
 fn answered(rack: &Rack, connected: &Connected, board: BoardNo, before: usize) -> Option<usize>
     requires board { IsBoard rack.now board }
     requires within { before ≤ length connected.now.answers }
     ensures within { IfSome result (λ count. count ≤ length connected.now.answers) }
-    ensures some { IfSome result (λ count. (rest : List ℕ) → do_fit_among rack.now connected.now (board ∷ rest) (drop before connected.now.answers) ≡ do_fit_among rack.now connected.now rest (drop count connected.now.answers)) }
-    ensures none { IfNone result ((rest : List ℕ) → do_fit_among rack.now connected.now (board ∷ rest) (drop before connected.now.answers) ≡ false) }
+    ensures some { IfSome result (λ count.
+        (rest : List ℕ)
+        → do_fit_among rack.now connected.now (board ∷ rest)
+        (drop before connected.now.answers)
+        ≡ do_fit_among rack.now connected.now rest (drop count connected.now.answers)) }
+    ensures none { IfNone result ((rest : List ℕ)
+        → do_fit_among rack.now connected.now (board ∷ rest)
+        (drop before connected.now.answers) ≡ false) }
 {
     if !is_other_holder(rack, connected.master, connected.line, board) {
         return Some(before);
@@ -75,10 +84,12 @@ fn answered(rack: &Rack, connected: &Connected, board: BoardNo, before: usize) -
     Some(before + 1)
 }
 
-/// Whether each other board that holds the line gives one answer, in rising order of boards, and each answer is an
-/// alternative of the board's cell.
+/// Whether each other board that holds the line gives one answer, in rising order of boards, and
+/// each answer is an alternative of the board's cell.
 pub fn do_answers_fit(rack: &Rack, connected: &Connected) -> bool
-    ensures { result ≡ do_fit_among rack.now connected.now (board_places (setup_of rack.now)) connected.now.answers }
+    ensures { result
+        ≡ do_fit_among rack.now connected.now (board_places (setup_of rack.now))
+        connected.now.answers }
 {
     let mut count = 0;
     for place in 0..rack.boards() {

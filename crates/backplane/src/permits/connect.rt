@@ -24,11 +24,12 @@ fn has_room(full: bool, outcome: &Outcome) -> bool
     !full || is_invalid(outcome)
 }
 
-/// Whether a transaction serves the master's access: it is an alternative of the master's cell, and there is room for the
-/// row that it may bring.
+/// Whether a transaction serves the master's access: it is an alternative of the master's cell, and
+/// there is room for the row that it may bring.
 fn serves_access(parts: &Parts, access: &Access, connected: &Connected) -> bool
     requires { IsPartOf parts.now connected.now.master }
-    ensures { TellsWhether parts.now (λ setup c. ForAccess setup c.rows connected.now access.now) result }
+    ensures { TellsWhether parts.now (λ setup c. ForAccess setup c.rows connected.now access.now)
+        result }
 {
     let action = LocalAction {
         result: connected.outcome,
@@ -47,7 +48,8 @@ fn serves_access(parts: &Parts, access: &Access, connected: &Connected) -> bool
 /// Whether a transaction flushes a victim that the master owns, to make room for its access.
 fn serves_victim(parts: &Parts, access: &Access, connected: &Connected) -> bool
     requires { IsPartOf parts.now connected.now.master }
-    ensures { TellsWhether parts.now (λ setup c. ForVictim setup c.rows connected.now access.now) result }
+    ensures { TellsWhether parts.now (λ setup c. ForVictim setup c.rows connected.now access.now)
+        result }
 {
     let master = connected.master;
     let wants = wants_row(cell_of(&parts.rack, master, access));
@@ -61,7 +63,8 @@ fn serves_victim(parts: &Parts, access: &Access, connected: &Connected) -> bool
 /// Whether a transaction has one of its two purposes.
 fn has_purpose(parts: &Parts, access: &Access, connected: &Connected) -> bool
     requires { IsPartOf parts.now connected.now.master }
-    ensures { TellsWhether parts.now (λ setup c. Purpose setup c.rows connected.now access.now) result }
+    ensures { TellsWhether parts.now (λ setup c. Purpose setup c.rows connected.now access.now)
+        result }
 {
     if serves_access(parts, access, connected) {
         return true;
@@ -69,8 +72,9 @@ fn has_purpose(parts: &Parts, access: &Access, connected: &Connected) -> bool
     serves_victim(parts, access, connected)
 }
 
-/// Whether a transaction may be connected, for its master's present access: the bus is granted to the master, the transaction
-/// serves the access or flushes a victim, and the answers are those of the other boards that hold the line.
+/// Whether a transaction may be connected, for its master's present access: the bus is granted to
+/// the master, the transaction serves the access or flushes a victim, and the answers are those of
+/// the other boards that hold the line.
 pub fn permits_connect(parts: &Parts, access: &Access, connected: &Connected) -> bool
     requires { IsPartOf parts.now connected.now.master }
     ensures { TellsFor parts.now connected.now.master access.now (Connect connected.now) result }

@@ -40,8 +40,8 @@ fn is_carried(a: &Carried, b: &Carried) -> bool
     all_hold(&[master, event, line, source, takers, states, done])
 }
 
-/// Whether the data of the transaction that is connected may move, as this data phase says. `access` is the master's present
-/// access.
+/// Whether the data of the transaction that is connected may move, as this data phase says.
+/// `access` is the master's present access.
 pub fn permits_data(
     parts: &Parts,
     connected: &Connected,
@@ -49,7 +49,10 @@ pub fn permits_data(
     carried: &Carried,
 ) -> bool
     requires { CanCarry parts.now connected.now }
-    ensures { (setup : Setup) (events : List Event) (c : Configuration) → SoundParts parts.now setup events c → c.phase ≡ model.Connected connected.now → access ≡ present_access setup c.boards connected.now.master → (IsTrue result ↔ Can setup c (DataPhase carried.now)) }
+    ensures { (setup : Setup) (events : List Event) (c : Configuration)
+        → SoundParts parts.now setup events c → c.phase ≡ model.Connected connected.now
+        → access ≡ present_access setup c.boards connected.now.master
+        → (IsTrue result ↔ Can setup c (DataPhase carried.now)) }
 {
     let there = access.is_some();
     let same = is_carried(

@@ -26,8 +26,8 @@ pub fn is_victim(victim: Option<LineNo>, line: LineNo) -> bool
     victim == Some(line)
 }
 
-/// Whether a board with this present access may drop its row of a line: it wants a row and is full, and the line is that of
-/// its victim, which is clean and is not held from it.
+/// Whether a board with this present access may drop its row of a line: it wants a row and is full,
+/// and the line is that of its victim, which is clean and is not held from it.
 pub fn permits_drop(
     parts: &Parts,
     access: &Access,

@@ -35,7 +35,9 @@ fn has_raised(parts: &Parts, board: BoardNo) -> bool
 /// Whether the lines settle to these, in this many rounds, and show the number of the winner.
 fn settles(parts: &Parts, winner: BoardNo, lines: u16, rounds: u8) -> bool
     requires { IsPartOf parts.now winner }
-    ensures { result ≡ does_settle (competitors parts.now.requests) (number_of (setup_of parts.now.rack) winner) lines rounds }
+    ensures { result
+        ≡ does_settle (competitors parts.now.requests)
+        (number_of (setup_of parts.now.rack) winner) lines rounds }
 {
     match parts.requests.contest() {
         Some(grant) => {
@@ -50,7 +52,10 @@ fn settles(parts: &Parts, winner: BoardNo, lines: u16, rounds: u8) -> bool
 /// Whether a board wins the bus, and the lines settle to these in this many rounds.
 fn wins(parts: &Parts, winner: BoardNo, lines: u16, rounds: u8) -> bool
     requires { AreOfOneSetup parts.now }
-    ensures { IsTrue result ↔ (HasRaised parts.now winner × IsTrue (does_settle (competitors parts.now.requests) (number_of (setup_of parts.now.rack) winner) lines rounds)) }
+    ensures { IsTrue result
+        ↔ (HasRaised parts.now winner
+        × IsTrue (does_settle (competitors parts.now.requests)
+        (number_of (setup_of parts.now.rack) winner) lines rounds)) }
 {
     if !has_raised(parts, winner) {
         return false;
@@ -58,8 +63,9 @@ fn wins(parts: &Parts, winner: BoardNo, lines: u16, rounds: u8) -> bool
     settles(parts, winner, lines, rounds)
 }
 
-/// Whether the bus may be granted to the winner in the turn of `by`: the bus is idle, both have raised a request, the lines
-/// settle to these in this many rounds, and they show the winner's number.
+/// Whether the bus may be granted to the winner in the turn of `by`: the bus is idle, both have
+/// raised a request, the lines settle to these in this many rounds, and they show the winner's
+/// number.
 pub fn permits_grant(parts: &Parts, by: BoardNo, winner: BoardNo, lines: u16, rounds: u8) -> bool
     requires { AreOfOneSetup parts.now }
     ensures { Tells parts.now (Grant by winner lines rounds) result }

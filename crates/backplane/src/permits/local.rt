@@ -23,8 +23,9 @@ fn may_go_on(held: bool, access: &Access, before: State, after: State) -> bool
     !held || is_quiet(access, before, after)
 }
 
-/// Whether a board with this present access may complete it by itself: it is not connected, some alternative leads from the
-/// one state to the other without the bus, the reply is the row's word, and a line that is held from it stays as it is.
+/// Whether a board with this present access may complete it by itself: it is not connected, some
+/// alternative leads from the one state to the other without the bus, the reply is the row's word,
+/// and a line that is held from it stays as it is.
 pub fn permits_local(
     parts: &Parts,
     access: &Access,

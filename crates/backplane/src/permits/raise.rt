@@ -9,8 +9,8 @@ use crate::permits::cell::{cell_of, needs_bus};
 use crate::permits::same::all_hold;
 use bus_signals::{Access, BoardNo};
 
-/// Whether a board with this present access may raise a request: it has raised none, is neither granted nor connected, and
-/// may need the bus.
+/// Whether a board with this present access may raise a request: it has raised none, is neither
+/// granted nor connected, and may need the bus.
 pub fn permits_raise(parts: &Parts, access: &Access, board: BoardNo) -> bool
     requires { IsPartOf parts.now board }
     ensures { TellsFor parts.now board access.now (Raise board) result }

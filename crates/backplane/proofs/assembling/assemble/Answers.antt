@@ -9,6 +9,8 @@ use Rattle.backplane.proofs.assembling.assemble.Goals as goal
 
 pub of-requires-clause-stands : goal.of-requires-clause-stands
 of-requires-clause-stands c =
-    stands-open c.args.setup (vec_capacity c.in-Ok-with_capacity.journal) c.in-Ok-parts.parts c.in-Ok-new.histories c.deref.result.now c.tables.ensures.sound
+    stands-open c.args.setup (vec_capacity c.in-Ok-with_capacity.journal) c.in-Ok-parts.parts c.in-Ok-new.histories
+    c.deref.result.now c.tables.ensures.sound
     (subst (λ (ts : List Table). AllByRecursion InClass ts) c.tables.ensures.tables c.in-Ok.ensures.accepted)
-    (c.in-Ok-with_capacity.ensures.exact ∙ ap (λ (n : Need). n.events) c.need.ensures) c.in-Ok-parts.ensures (c.deref.ensures.value ∙ c.in-Ok-script_lengths.ensures) c.in-Ok-new.ensures
+    (c.in-Ok-with_capacity.ensures.exact ∙ ap (λ (n : Need). n.events) c.need.ensures) c.in-Ok-parts.ensures
+    (c.deref.ensures.value ∙ c.in-Ok-script_lengths.ensures) c.in-Ok-new.ensures

@@ -10,4 +10,5 @@ loop-place-preserved c =
     let scripts = c.boards.ensures.sound.scripts in
     let l = c.loop-place-test.true in
     let within : c.loop-place.place < length setup.scripts = omega (arith, boards, scripts, l) in
-    lengths-more setup c.loop-place.lengths.items c.push.new.self.items c.loop-place.place c.script-length.result.now within c.loop-place.invariant c.script-length.ensures.script c.in-Ok.ensures.items
+    lengths-more setup c.loop-place.lengths.items c.push.new.self.items c.loop-place.place c.script-length.result.now
+    within c.loop-place.invariant c.script-length.ensures.script c.in-Ok.ensures.items

@@ -9,8 +9,11 @@ loop-room-init c = rw c.new-lists.ensures.items refl
 
 pub loop-room-preserved : goal.loop-room-preserved
 loop-room-preserved c =
-    new-list c.args.rooms.now c.loop-room.room-index (get_or c.args.rooms.now c.loop-room.room-index 0) c.loop-room.lists.items c.push.new.self.items c.in-Ok.list
-    c.loop-room-test.true refl c.in-Ok-push.ensures.items c.in-Ok.ensures.items c.in-Ok.ensures.exact c.loop-room.invariant
+    new-list c.args.rooms.now c.loop-room.room-index (get_or c.args.rooms.now c.loop-room.room-index 0)
+    c.loop-room.lists.items c.push.new.self.items c.in-Ok.list
+    c.loop-room-test.true refl c.in-Ok-push.ensures.items c.in-Ok.ensures.items c.in-Ok.ensures.exact
+    c.loop-room.invariant
 
 pub returns : goal.returns
-returns c = c.loop-room.invariant ∙ ap empty_histories (take_all c.loop-room.room-index c.args.rooms.now c.loop-room-test.false)
+returns c =
+    c.loop-room.invariant ∙ ap empty_histories (take_all c.loop-room.room-index c.args.rooms.now c.loop-room-test.false)

@@ -8,9 +8,11 @@ pub returns : goal.returns
 returns c =
     let lists = c.self.inside.lists.items in
     let place : c.board.inside.0 - 1 ≡ c.args.board - 1 = ap (λ (n : ℕ). n - 1) c.board.view_is in
-    let long : length (rows lists) ≡ length c.args.self.now.entries = ap (λ (h : Histories). length h.entries) c.self.view_is in
+    let long : length (rows lists) ≡ length c.args.self.now.entries =
+    ap (λ (h : Histories). length h.entries) c.self.view_is in
     let high = c.requires.high in
     let low = c.requires.low in
     c.deref.ensures.value
-    ∙ read-row lists c.args.board (c.board.inside.0 - 1) c.index.result.now low place (omega (arith, long, high)) c.index.ensures
+    ∙ read-row lists c.args.board (c.board.inside.0 - 1) c.index.result.now low place (omega (arith, long, high))
+    c.index.ensures
     ∙ ap (λ (h : Histories). history_of h c.args.board) c.self.view_is

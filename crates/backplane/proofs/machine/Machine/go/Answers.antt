@@ -8,17 +8,20 @@ use Rattle.backplane.proofs.machine.Machine.go.Goals as goal
 pub do_local-requires : goal.do_local-requires
 do_local-requires c =
     let m = c.args.self.now in
-    c.requires (Local c.args.board c.in-Settle.before c.in-Settle.after c.in-Settle.done) (ap (planned m.setup (configuration m) c.args.board) c.in-Settle.is)
+    c.requires (Local c.args.board c.in-Settle.before c.in-Settle.after c.in-Settle.done)
+    (ap (planned m.setup (configuration m) c.args.board) c.in-Settle.is)
 
 pub do_drop-requires : goal.do_drop-requires
 do_drop-requires c =
     let m = c.args.self.now in
-    c.requires (Drop c.args.board c.in-Drop.line c.in-Drop.before) (ap (planned m.setup (configuration m) c.args.board) c.in-Drop.is)
+    c.requires (Drop c.args.board c.in-Drop.line c.in-Drop.before)
+    (ap (planned m.setup (configuration m) c.args.board) c.in-Drop.is)
 
 pub do_connect_as_picked-requires : goal.do_connect_as_picked-requires
 do_connect_as_picked-requires c =
     let m = c.args.self.now in
-    c.requires (Connect (transaction_of m.setup (configuration m) c.args.board c.in-Connect.line c.in-Connect.event c.in-Connect.outcome)) (ap (planned m.setup (configuration m) c.args.board) c.in-Connect.is)
+    c.requires (Connect (transaction_of m.setup (configuration m) c.args.board c.in-Connect.line c.in-Connect.event
+    c.in-Connect.outcome)) (ap (planned m.setup (configuration m) c.args.board) c.in-Connect.is)
 
 pub do_raise-requires : goal.do_raise-requires
 do_raise-requires c =
@@ -28,4 +31,5 @@ do_raise-requires c =
 pub do_grant-requires : goal.do_grant-requires
 do_grant-requires c =
     let m = c.args.self.now in
-    c.requires (Grant c.args.board c.in-Grant.winner c.in-Grant.lines c.in-Grant.rounds) (ap (planned m.setup (configuration m) c.args.board) c.in-Grant.is)
+    c.requires (Grant c.args.board c.in-Grant.winner c.in-Grant.lines c.in-Grant.rounds)
+    (ap (planned m.setup (configuration m) c.args.board) c.in-Grant.is)

@@ -10,5 +10,6 @@ pub returns : goal.returns
 returns c =
     let m = c.self.inside in
     let sound = stands-sound m.setup m.journal.items (vec_capacity m.journal) m.parts m.histories c.self.invariant in
-    lines-are m.setup (configuration_after m.setup m.journal.items) m.parts.memory c.lines.result sound.parts.memory c.self.invariant.parts.memory c.lines.ensures.lines
+    lines-are m.setup (configuration_after m.setup m.journal.items) m.parts.memory c.lines.result sound.parts.memory
+    c.self.invariant.parts.memory c.lines.ensures.lines
     ∙ ap (λ (x : Machine). line_count x.setup) c.self.view_is

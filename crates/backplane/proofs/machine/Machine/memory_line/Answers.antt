@@ -10,9 +10,11 @@ use Rattle.backplane.proofs.machine.Machine.memory_line.Goals as goal
 pub get_memory-requires : goal.get_memory-requires
 get_memory-requires c =
     let m = c.self.inside in
-    let within : c.args.line < line_count m.setup = subst (λ (x : Machine). c.args.line < line_count x.setup) (sym c.self.view_is) c.requires in
+    let within : c.args.line < line_count m.setup =
+    subst (λ (x : Machine). c.args.line < line_count x.setup) (sym c.self.view_is) c.requires in
     let sound = stands-sound m.setup m.journal.items (vec_capacity m.journal) m.parts m.histories c.self.invariant in
-    line-there m.setup m.journal.items (configuration_after m.setup m.journal.items) m.parts c.args.line sound c.self.invariant.parts within
+    line-there m.setup m.journal.items (configuration_after m.setup m.journal.items) m.parts c.args.line sound
+    c.self.invariant.parts within
 
 pub returns : goal.returns
 returns c =

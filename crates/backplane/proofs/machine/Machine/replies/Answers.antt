@@ -7,7 +7,8 @@ use Rattle.backplane.proofs.machine.Machine.replies.Goals as goal
 pub of-requires-clause-high : goal.of-requires-clause-high
 of-requires-clause-high c =
     let m = c.self.inside in
-    let board : IsBoard _ c.args.board = subst (λ (x : Machine). IsBoard x c.args.board) (sym c.self.view_is) c.requires in
+    let board : IsBoard _ c.args.board =
+    subst (λ (x : Machine). IsBoard x c.args.board) (sym c.self.view_is) c.requires in
     let there = history-there m.setup m.journal.items m.histories c.self.invariant.histories in
     let high = board.high in
     omega (arith, there, high)
@@ -15,6 +16,8 @@ of-requires-clause-high c =
 pub returns : goal.returns
 returns c =
     let m = c.self.inside in
-    let board : IsBoard _ c.args.board = subst (λ (x : Machine). IsBoard x c.args.board) (sym c.self.view_is) c.requires in
-    c.of.ensures ∙ history-is m.setup m.journal.items m.histories c.args.board c.self.invariant.histories board.low board.high
+    let board : IsBoard _ c.args.board =
+    subst (λ (x : Machine). IsBoard x c.args.board) (sym c.self.view_is) c.requires in
+    c.of.ensures
+    ∙ history-is m.setup m.journal.items m.histories c.args.board c.self.invariant.histories board.low board.high
     ∙ ap (λ (x : Machine). entries_of c.args.board (entries x.journal)) c.self.view_is

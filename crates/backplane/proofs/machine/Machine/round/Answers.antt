@@ -16,11 +16,16 @@ loop-place-preserved c =
     let before = take place (board_places m.setup) in
     let next = next_in_round m.setup place (omega arith) in
     let turn = ap (λ (x : Machine). turn_of x (place + 1)) i.turned in
-    let events : c.events_of-did.result ≡ done_by (turn_of (after_turns m before) (place + 1)) = c.events_of-did.ensures ∙ ap events_told c.advance.ensures.told ∙ told_count (turn_of c.loop-place.self (place + 1)) ∙ ap done_by turn in
+    let events : c.events_of-did.result ≡ done_by (turn_of (after_turns m before) (place + 1)) =
+    c.events_of-did.ensures ∙ ap events_told c.advance.ensures.told
+    ∙ told_count (turn_of c.loop-place.self (place + 1)) ∙ ap done_by turn in
     record {
-      turned = c.advance.ensures.machine ∙ ap (λ (x : Machine). moved x (turn_of x (place + 1))) i.turned ∙ sym (next_turn m before (place + 1)) ∙ ap (after_turns m) (sym next);
+      turned =
+          c.advance.ensures.machine ∙ ap (λ (x : Machine). moved x (turn_of x (place + 1))) i.turned
+          ∙ sym (next_turn m before (place + 1)) ∙ ap (after_turns m) (sym next);
       counted =
-          (λ j. i.counted j + events j) ∙ sym (next_count m before (place + 1)) ∙ ap (λ places. length (events_of_turns m.setup (configuration m) places)) (sym next);
+          (λ j. i.counted j + events j) ∙ sym (next_count m before (place + 1))
+          ∙ ap (λ places. length (events_of_turns m.setup (configuration m) places)) (sym next);
       few = let few = i.few in let one = told_few c.advance.result in let e = c.events_of-did.ensures in omega arith;
     }
 
@@ -36,11 +41,14 @@ returns-clause-count c =
     let m = c.args.self.now in
     let boards = c.boards-boards.ensures.boards in
     let test = c.loop-place-test.false in
-    c.loop-place.invariant.counted ∙ ap (λ places. length (events_of_turns m.setup (configuration m) places)) (whole_round m.setup c.loop-place.place (omega arith))
+    c.loop-place.invariant.counted
+    ∙ ap (λ places. length (events_of_turns m.setup (configuration m) places))
+    (whole_round m.setup c.loop-place.place (omega arith))
 
 pub returns-clause-goes_on : goal.returns-clause-goes_on
 returns-clause-goes_on c = λ unfinished.
     let m = c.args.self.now in
-    let some = round_goes_on m.setup m.journal (configuration m) c.journal-journal.ensures.setup c.journal-journal.ensures.sound unfinished in
+    let some = round_goes_on m.setup m.journal (configuration m) c.journal-journal.ensures.setup
+    c.journal-journal.ensures.sound unfinished in
     let count = returns-clause-count c in
     omega arith

@@ -12,11 +12,16 @@ connect-connected-requires-clause-draws c = spent-below c.args.self.now.rack.cou
 
 pub spend-requires-clause-draws : goal.spend-requires-clause-draws
 spend-requires-clause-draws c =
-    let few = few-answers c.args.self.now.rack c.args.master c.args.line c.args.event c.args.outcome c.connect-connected.result c.connect-connected.ensures.transaction c.requires.counts.boards in
-    answered-fits c.args.self.now.rack c.connect-connected.new.rack c.connect-connected.result.answers c.args.master c.connect-connected.ensures.draws few c.requires.counts.counts
+    let few = few-answers c.args.self.now.rack c.args.master c.args.line c.args.event c.args.outcome
+    c.connect-connected.result c.connect-connected.ensures.transaction c.requires.counts.boards in
+    answered-fits c.args.self.now.rack c.connect-connected.new.rack c.connect-connected.result.answers c.args.master
+    c.connect-connected.ensures.draws few c.requires.counts.counts
 
 pub returns-clause-shows : goal.returns-clause-shows
 returns-clause-shows c = λ setup x s.
-    let spends = c.spend.ensures ∙ ap (λ (b : ℕ). rack_spent c.connect-connected.new.rack b) (sym (ap (λ (t : Transaction). t.master) c.connect-connected.ensures.transaction)) in
-    shown-connect setup x c.args.self.now c.connect-connected.new.rack c.spend.new.self (Connected c.copy.result) c.connect-connected.result
+    let spends = c.spend.ensures
+    ∙ ap (λ (b : ℕ). rack_spent c.connect-connected.new.rack b)
+    (sym (ap (λ (t : Transaction). t.master) c.connect-connected.ensures.transaction)) in
+    shown-connect setup x c.args.self.now c.connect-connected.new.rack c.spend.new.self (Connected c.copy.result)
+    c.connect-connected.result
     c.connect-connected.ensures.draws spends (ap (λ (t : Transaction). model.Connected t) c.copy.ensures) s

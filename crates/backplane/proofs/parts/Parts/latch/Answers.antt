@@ -13,9 +13,12 @@ spend_all-requires-clause-draws c = spent-below c.args.self.now.rack.counts c.re
 pub spend-requires-clause-draws : goal.spend-requires-clause-draws
 spend-requires-clause-draws c =
     answered-fits c.args.self.now.rack c.spend_all.new.rack c.args.connected.now.answers c.args.connected.now.master
-    (c.spend_all.ensures ∙ ap (rack_answered c.args.self.now.rack) c.items.ensures.items) (let few = c.items.ensures.short in omega arith) c.requires.counts.counts
+    (c.spend_all.ensures ∙ ap (rack_answered c.args.self.now.rack) c.items.ensures.items)
+    (let few = c.items.ensures.short in omega arith) c.requires.counts.counts
 
 pub returns : goal.returns
 returns c = λ setup x s.
-    shown-connect setup x c.args.self.now c.spend_all.new.rack c.spend.new.self (Connected c.copy.result) c.args.connected.now
-    (c.spend_all.ensures ∙ ap (rack_answered c.args.self.now.rack) c.items.ensures.items) c.spend.ensures (ap (λ (t : Transaction). model.Connected t) c.copy.ensures) s
+    shown-connect setup x c.args.self.now c.spend_all.new.rack c.spend.new.self (Connected c.copy.result)
+    c.args.connected.now
+    (c.spend_all.ensures ∙ ap (rack_answered c.args.self.now.rack) c.items.ensures.items) c.spend.ensures
+    (ap (λ (t : Transaction). model.Connected t) c.copy.ensures) s

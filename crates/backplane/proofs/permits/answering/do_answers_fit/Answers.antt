@@ -11,7 +11,9 @@ returns-in_default c =
     let place = c.loop-place.place in
     let boards = c.boards-place-end.ensures.boards in
     let test = c.loop-place-test.true in
-    sym (c.loop-place.invariant.same ∙ next_board rack t place (place + 1) c.loop-place.count (omega arith) (omega arith) ∙ c.in_default.ensures.none (drop (place + 1) (board_places (setup_of rack))))
+    sym (c.loop-place.invariant.same
+    ∙ next_board rack t place (place + 1) c.loop-place.count (omega arith) (omega arith)
+    ∙ c.in_default.ensures.none (drop (place + 1) (board_places (setup_of rack))))
 
 pub loop-place-preserved : goal.loop-place-preserved
 loop-place-preserved c =
@@ -22,7 +24,10 @@ loop-place-preserved c =
     let test = c.loop-place-test.true in
     record {
       within = c.in-Some.ensures.within;
-      same = c.loop-place.invariant.same ∙ next_board rack t place (place + 1) c.loop-place.count (omega arith) (omega arith) ∙ c.in-Some.ensures.some (drop (place + 1) (board_places (setup_of rack)));
+      same =
+          c.loop-place.invariant.same
+          ∙ next_board rack t place (place + 1) c.loop-place.count (omega arith) (omega arith)
+          ∙ c.in-Some.ensures.some (drop (place + 1) (board_places (setup_of rack)));
     }
 
 pub returns : goal.returns
@@ -33,4 +38,6 @@ returns c =
     let boards = c.boards-place-end.ensures.boards in
     let test = c.loop-place-test.false in
     let answers = c.items.ensures.items in
-    ap (λ items. c.loop-place.count == length items) answers ∙ last_board rack t place c.loop-place.count (omega arith) c.loop-place.invariant.within ∙ sym c.loop-place.invariant.same
+    ap (λ items. c.loop-place.count == length items) answers
+    ∙ last_board rack t place c.loop-place.count (omega arith) c.loop-place.invariant.within
+    ∙ sym c.loop-place.invariant.same

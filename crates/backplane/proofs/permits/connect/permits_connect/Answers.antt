@@ -13,8 +13,14 @@ returns c = λ setup events x sound present.
     let parts = c.args.parts.now in
     let shows = sound.shows in
     as_well c.all_hold.result _ _ c.all_hold.ensures
-    (connect_told setup x t c.args.access.now c.is_granted-granted.result c.has_purpose-purpose.result c.do_answers_fit-answers.result
+    (connect_told setup x t c.args.access.now c.is_granted-granted.result c.has_purpose-purpose.result
+    c.do_answers_fit-answers.result
     (c.is_granted-granted.ensures ∙ ap (λ phase. is_granted phase t.master) shows.phase)
     (c.has_purpose-purpose.ensures setup events x sound)
-    (c.do_answers_fit-answers.ensures ∙ (λ i. let s : Setup = record { memory = []; tables = shows.tables i; boards = shows.boards i; scripts = [] } in do_answers_fit s (shows.rack.rows i) t.line t.event (other_holders s (shows.rack.rows i) t.master t.line) t.answers))
+    (c.do_answers_fit-answers.ensures
+    ∙ (λ i.
+    let s : Setup =
+    record { memory = []; tables = shows.tables i; boards = shows.boards i; scripts = [] } in
+    do_answers_fit s (shows.rack.rows i) t.line t.event
+    (other_holders s (shows.rack.rows i) t.master t.line) t.answers))
     present)

@@ -21,14 +21,18 @@ returns c = λ setup events x sound.
     let shows = sound.shows in
     let action : LocalAction = record { result = t.outcome; bus = Some t.event } in
     let line : c.line_of.result ≡ access_line access = c.line_of.ensures in
-    let cell : c.cell_of.result.now ≡ cell_of setup x.rows t.master access = c.cell_of.ensures ∙ cell_shown setup x parts shows t.master access in
+    let cell : c.cell_of.result.now ≡ cell_of setup x.rows t.master access =
+    c.cell_of.ensures ∙ cell_shown setup x parts shows t.master access in
     let alternative : c.has_local-alternative.result ≡ has_local (cell_of setup x.rows t.master access) action =
-    c.has_local-alternative.ensures ∙ ap (list_any (λ (a : LocalAction). same_local a action)) cell ∙ any_local (cell_of setup x.rows t.master access) action in
+    c.has_local-alternative.ensures ∙ ap (list_any (λ (a : LocalAction). same_local a action)) cell
+    ∙ any_local (cell_of setup x.rows t.master access) action in
     let low = c.requires.low in
     let high = c.requires.rack in
     let boards = ap length shows.boards in
     let full : c.is_some-full.result ≡ is_full setup x.rows t.master t.line =
-    c.is_some-full.ensures ∙ ap is_some (c.victim.ensures ∙ ap (option_map {U = ℕ} (λ (v : ℕ × State). v.0)) (rack-victim setup x parts t.master t.line shows))
+    c.is_some-full.ensures
+    ∙ ap is_some (c.victim.ensures
+    ∙ ap (option_map {U = ℕ} (λ (v : ℕ × State). v.0)) (rack-victim setup x parts t.master t.line shows))
     ∙ full_is setup x.rows t.master t.line sound.fits (record { low = low; high = omega arith }) in
     as_well c.all_hold.result _ _ c.all_hold.ensures
     (access_told setup x.rows t access c.is_line-line.result c.has_local-alternative.result c.has_room-room.result

@@ -21,13 +21,19 @@ returns c = λ setup events x sound present.
     let parts = c.args.parts.now in
     let shows = sound.shows in
     let first = option_map {U = ℕ} (λ (v : ℕ × State). v.0) in
-    let wants : c.wants_row-wants.result ≡ wants_row setup x.rows board access = c.wants_row-wants.ensures ∙ ap (list_any (λ (a : LocalAction). not (is_invalid a.result))) (c.cell_of.ensures ∙ cell_shown setup x parts shows board access) in
+    let wants : c.wants_row-wants.result ≡ wants_row setup x.rows board access =
+    c.wants_row-wants.ensures
+    ∙ ap (list_any (λ (a : LocalAction). not (is_invalid a.result)))
+    (c.cell_of.ensures ∙ cell_shown setup x parts shows board access) in
     let gone : c.victim.result ≡ first (victim setup x.rows board (access_line access)) =
-    c.victim.ensures ∙ ap (λ l. first (victim (setup_of parts.rack) parts.rack.rows board l)) c.line_of.ensures ∙ ap first (rack-victim setup x parts board (access_line access) shows) in
-    let state : c.state_of.result ≡ state_at x.rows board line = c.state_of.ensures.state ∙ state_shown setup x parts shows board line in
+    c.victim.ensures ∙ ap (λ l. first (victim (setup_of parts.rack) parts.rack.rows board l)) c.line_of.ensures
+    ∙ ap first (rack-victim setup x parts board (access_line access) shows) in
+    let state : c.state_of.result ≡ state_at x.rows board line =
+    c.state_of.ensures.state ∙ state_shown setup x parts shows board line in
     as_well c.all_hold.result _ _ c.all_hold.ensures
     (drop_told setup _ x board line c.args.before access
-    c.is_connected-connected.result c.wants_row-wants.result c.is_victim-victim.result c.is_state-same.result c.is_clean-clean.result c.is_some-held.result
+    c.is_connected-connected.result c.wants_row-wants.result c.is_victim-victim.result c.is_state-same.result
+    c.is_clean-clean.result c.is_some-held.result
     sound.sound.rows
     (c.is_connected-connected.ensures ∙ ap (λ phase. is_connected phase board) shows.phase)
     wants

@@ -14,9 +14,12 @@ returns c = λ setup events x sound present.
     let board = c.args.board in
     let shows = sound.shows in
     as_well c.all_hold.result _ _ c.all_hold.ensures
-    (raise_told setup x board c.args.access.now c.raised-raised.result c.is_granted-granted.result c.is_connected-connected.result c.needs_bus-needs.result
+    (raise_told setup x board c.args.access.now c.raised-raised.result c.is_granted-granted.result
+    c.is_connected-connected.result c.needs_bus-needs.result
     (c.raised-raised.ensures.raised ∙ raised-shown setup x c.args.parts.now board shows c.requires)
     (c.is_granted-granted.ensures ∙ ap (λ phase. is_granted phase board) shows.phase)
     (c.is_connected-connected.ensures ∙ ap (λ phase. is_connected phase board) shows.phase)
-    (c.needs_bus-needs.ensures ∙ ap (list_any (λ (a : LocalAction). is_some a.bus)) (c.cell_of.ensures ∙ cell_shown setup x c.args.parts.now shows board c.args.access.now))
+    (c.needs_bus-needs.ensures
+    ∙ ap (list_any (λ (a : LocalAction). is_some a.bus))
+    (c.cell_of.ensures ∙ cell_shown setup x c.args.parts.now shows board c.args.access.now))
     present)
