@@ -1,14 +1,8 @@
 //! The pool of frames after a run in which a line had to go for another.
 
-ghost use Rattle.std.specs.Prelude.{◌≡◌, ◌∷◌, [], IfOk};
-ghost use Rattle.backplane.specs.Machine.{IsBoard};
-
 use crate::assembling::assemble;
-use crate::machine::Machine;
-use crate::needs::need;
 use bus_signals::{Access, Addr, BoardNo, BusEvent, LineNo, LocalEvent, Response};
 use class_relation::{LocalAction, Name, PushFault, SnoopAction, Table};
-use line_pool::FrameNo;
 use moesi_state::{Outcome, State};
 use setup::Setup;
 use std::alloc::Global;
@@ -91,22 +85,6 @@ fn two_writes(alloc: Global) -> Result<Setup, Fail> {
     let boards = Vec::from_array(alloc, [board])?;
     let scripts = Vec::from_array(alloc, [Vec::from_array(alloc, script)?])?;
     Ok(Setup::of(memory, tables, boards, scripts))
-}
-
-impl Machine {
-    /// The words of the only frame that a machine has, where a board has a copy. The frame is out
-    /// then, and none is free.
-    fn only_frame(&self, board: BoardNo, line: LineNo) -> Option<[u32; 4]>
-        requires { IsBoard self.now board }
-    {
-        if need(&self.setup).frames != 1 {
-            return None;
-        }
-        let Some(_) = self.copy(board, line) else {
-            return None;
-        };
-        Some(self.parts.rack.pool().words(FrameNo(0)))
-    }
 }
 
 // The second write takes eight events: the line that was written before has to go first, by a flush.

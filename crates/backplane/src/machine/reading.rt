@@ -12,10 +12,12 @@ ghost use Rattle.backplane.specs.Machine.{configuration, IsBoard};
 ghost use Rattle.backplane.specs.Needs.{needed, reply_count};
 
 use crate::machine::Machine;
+use crate::needs::need;
 use bus_signals::{Access, BoardNo, LineNo};
 use data_phase::get_memory;
 use flat_memory::Entry;
 use journal::Event;
+use line_pool::FrameNo;
 use moesi_state::State;
 
 /// The access at a place of a script, from 0.
@@ -54,6 +56,20 @@ impl Machine {
         ensures rows { length (configuration self.now).rows ≤ (needed self.now.setup).frames }
     {
         let _pool = self.parts.rack.pool();
+    }
+
+    /// The words of the only frame that a machine has, where a board has a copy: the frame is out then,
+    /// and none is free. No caller of the machine sees frames; this is for the test of the pool.
+    pub(crate) fn only_frame(&self, board: BoardNo, line: LineNo) -> Option<[u32; 4]>
+        requires { IsBoard self.now board }
+    {
+        if need(&self.setup).frames != 1 {
+            return None;
+        }
+        let Some(_) = self.copy(board, line) else {
+            return None;
+        };
+        Some(self.parts.rack.pool().words(FrameNo(0)))
     }
 
     /// The completed accesses of a board, in order.
