@@ -21,8 +21,8 @@ use Rattle.run_text.specs.RunText.{run_text, ending}
 use Rattle.fb_cli.specs.declared.role.Role.{Role}
 use Rattle.fb_cli.specs.declared.role.Role.TheVariants as roles
 use Rattle.fb_cli.specs.Report.{is_accepted}
-use Rattle.fb_cli.specs.Output.{Output, limit_of, within, on_read, if_accepted, with_accepted, report_output}
-use Rattle.fb_cli.specs.Replies.{AreSetup}
+use Rattle.fb_cli.specs.Output.{Output, limit_of, within, on_read, with_file, if_accepted, with_accepted, report_output}
+use Rattle.fb_cli.specs.Command.{AreSetup}
 use Rattle.fb_cli.specs.Replay.{on_replayed, trace_output, replay_output}
 use Rattle.fb_cli.specs.Headline.{RunHolds}
 use Rattle.fb_cli.proofs.AcceptedTables.{all-accepted}
@@ -49,12 +49,18 @@ run_replayed setup events holds =
 pub is_within : (role : Role) (bytes : List ℕ) (wanted : Output) → length bytes ≤ limit_of role → within role bytes wanted ≡ wanted
 is_within role bytes wanted short = let no : nat_lt (limit_of role) (length bytes) ≡ false = grind (arith, nat_tests) in rw no refl
 
+-- The output that a setup of a file asks for.
+pub with_setup_is : (bytes : List ℕ) (setup : Setup) (wanted : Setup → Output) → AreSetup setup bytes
+    → with_file roles.Setup setup_at bytes wanted ≡ wanted setup
+with_setup_is bytes setup wanted read =
+    is_within roles.Setup bytes (on_read roles.Setup wanted (setup_at (unread bytes))) read.0 ∙ ap (on_read roles.Setup wanted) read.1
+
 -- The output that an accepted setup of a file asks for.
-pub with_accepted_is : (bytes : List ℕ) (setup : Setup) (wanted : Setup → Output) → AreSetup setup bytes → list_all is_accepted setup.tables ≡ true → with_accepted bytes wanted ≡ wanted setup
+pub with_accepted_is : (bytes : List ℕ) (setup : Setup) (wanted : Setup → Output) → AreSetup setup bytes
+    → list_all is_accepted setup.tables ≡ true → with_accepted bytes wanted ≡ wanted setup
 with_accepted_is bytes setup wanted read accepted =
-    is_within roles.Setup bytes (on_read roles.Setup (λ s. if_accepted s (wanted s)) (setup_at (unread bytes))) read.0
-    ∙ (ap (on_read roles.Setup (λ s. if_accepted s (wanted s))) read.1
-    ∙ ap (λ b. if b then wanted setup else report_output setup.tables) accepted)
+    with_setup_is bytes setup (λ s. if_accepted s (wanted s)) read
+    ∙ ap (λ b. if b then wanted setup else report_output setup.tables) accepted
 
 pub replayed_alike : (bytes : List ℕ) (setup : Setup) (events : List Event) → AreSetup setup bytes → RunHolds setup events
     → replay_output bytes (run_text setup events (after_all (opening setup) events)) ≡ record { status = 0; text = ending setup events (after_all (opening setup) events) }

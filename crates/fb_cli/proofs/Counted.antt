@@ -8,13 +8,14 @@ use Rattle.backplane.specs.Machine.{Machine, opened}
 use Rattle.generator.specs.Generated.{generated}
 use Rattle.generator.specs.Schedule.{seeded_turns}
 use Rattle.tally.specs.Tally.{tally_text}
-use Rattle.fb_cli.specs.Tally.{generated_run, tally_output}
+use Rattle.fb_cli.specs.Run.{turns_of}
+use Rattle.fb_cli.specs.Tally.{tally_output}
 
 -- The journal of a machine of the generated setup, after the seeded schedule was played on it.
 journal_is : (seed : ℕ) (setup : Setup) (first last : Machine) (accesses : ℕ) (journal : List Event)
     → setup ≡ generated seed → first ≡ opened setup → accesses ≡ access_count setup
     → last ≡ record { setup = first.setup; journal = played first.setup (seeded_turns seed (length first.setup.boards) accesses) }
-    → journal ≡ last.journal → journal ≡ generated_run seed
+    → journal ≡ last.journal → journal ≡ played (generated seed) (turns_of seed (generated seed))
 journal_is seed setup first last accesses journal made start counted turned same =
     same
     ∙ ap (λ (m : Machine). m.journal) turned

@@ -11,7 +11,7 @@ use Rattle.bus_model.specs.Entries.{entries, Legal}
 use Rattle.coherence.proofs.Steps.{every_run_is_sound, complete_runs_have_their_scripts}
 use Rattle.run_text.specs.Lengths.{RunTextsFit}
 use Rattle.run_text.specs.RunText.{ending}
-use Rattle.fb_cli.specs.Replies.{AreSetup}
+use Rattle.fb_cli.specs.Command.{AreSetup}
 use Rattle.fb_cli.specs.Headline.{RunHolds, IsTextOfRun, IsRunOf}
 use Rattle.fb_cli.specs.Replay.{replay_output}
 use Rattle.fb_cli.proofs.Alike.{replayed_alike}

@@ -1,13 +1,11 @@
 -- What a command is, and what a call that does it may answer.
-use Rattle.std.specs.Prelude.{◌≡◌, ◌⊎◌, ℕ, ◌≤◌, List, [], ◌∷◌, length, Option, Some, IfSome, IsTrue, is_ok}
 use Rattle.std.specs.Io.KnownBytes.{Appends}
-use Rattle.fb_text.specs.Unread.{unread}
-use Rattle.setup_text.specs.Reading.{setup_at}
 use Rattle.fb_edge.specs.Outside.{AppendsFront}
-use Rattle.fb_cli.specs.declared.answers.Refusal.TheVariants.{NoRow, Unread, NoMemory}
-use Rattle.fb_cli.specs.declared.role.Role.{Role}
-use Rattle.fb_cli.specs.declared.role.Role.TheVariants as roles
-use Rattle.fb_cli.specs.Output.{Output, Files, limit_of, refusal_output}
+pub use Rattle.std.specs.Prelude.{◌≡◌, ◌⊎◌, ℕ, ◌+◌, ◌≤◌, ◌<◌, List, [], ◌∷◌, ◌++◌, length, map, Bool, true, false, Option, None, Some, IfSome, Result, Ok, Err, codes, decimal, if◌then◌else◌}
+pub use Rattle.std.specs.List.{AllByRecursion, list_all}
+pub use Rattle.fb_text.specs.Unread.{unread}
+pub use Rattle.setup_text.specs.Reading.{setup_at}
+pub use Rattle.fb_cli.specs.Output.{Output, Files, Role, Refusal, Setup, is_accepted, limit_of, output, refusal_output, fault_output, report_output, within, on_read, with_file, if_accepted, with_accepted}
 
 -- A file that a command opens: its role, which sets its limit, and what has to hold of the files that were read before it.
 pub record File : Type 1 where
@@ -23,11 +21,15 @@ pub record Command : Type 1 where
 
 -- The setup, which is opened first.
 abbrev pub setup_file : File
-setup_file = record { role = roles.Setup; after = λ bytes_of. Unit {0} }
+setup_file = record { role = Role.Setup; after = λ bytes_of. Unit {0} }
 
--- The file is within the limit of a setup, and is one in the grammar.
-abbrev pub IsSetupFile : List ℕ → Type 0
-IsSetupFile bytes = (length bytes ≤ limit_of roles.Setup) × IsTrue (is_ok (setup_at (unread bytes)))
+-- These bytes are within the limit of a setup, and are this setup.
+abbrev pub AreSetup : Setup → List ℕ → Type 0
+AreSetup setup bytes = (length bytes ≤ limit_of Role.Setup) × (setup_at (unread bytes) ≡ Ok setup)
+
+-- A file that is opened where the file of this name is a setup of which this holds.
+abbrev pub file_on : Role → (setup : List ℕ) → (Setup → Type 0) → File
+file_on role setup Fits = record { role = role; after = λ bytes_of. (s : Setup) × AreSetup s (bytes_of setup) × Fits s }
 
 -- A command that has one output on its files, and promises no more than that.
 abbrev pub exactly : List File → (Files → Output) → Command
@@ -62,8 +64,8 @@ Taken command files before after status = (o : Output) × Asked command files o 
 abbrev pub Due : Command → Option Files → Type 0 → List ℕ → Type 0
 Due command files shelf_rose text =
     ((o : Output) × Asked command files o × (text ≡ o.text))
-    ⊎ (((role : Role) × IsUnread command.opens files shelf_rose role × (text ≡ (refusal_output (Unread role)).text))
-    ⊎ (text ≡ (refusal_output NoMemory).text))
+    ⊎ (((role : Role) × IsUnread command.opens files shelf_rose role × (text ≡ (refusal_output (Refusal.Unread role)).text))
+    ⊎ (text ≡ (refusal_output Refusal.NoMemory).text))
 
 -- How a call that does a command ends: each status comes only where its field says. `before` and `after` are what the sink took.
 pub record Answers (command : Command) (files : Option Files) (shelf_rose sink_rose : Type 0) (before after : Option (List ℕ)) (status : ℕ) : Type 0 where
@@ -71,9 +73,9 @@ pub record Answers (command : Command) (files : Option Files) (shelf_rose sink_r
   pub refused : status ≡ 1 → Taken command files before after 1
   pub matched : status ≡ 2 → ⊥
   pub malformed : status ≡ 3 → Taken command files before after 3
-  pub unread : status ≡ 4 → (role : Role) × IsUnread command.opens files shelf_rose role × Appends before after (refusal_output (Unread role)).text
+  pub unread : status ≡ 4 → (role : Role) × IsUnread command.opens files shelf_rose role × Appends before after (refusal_output (Refusal.Unread role)).text
   pub unwritten : status ≡ 5 → sink_rose × ((text : List ℕ) × Due command files shelf_rose text × AppendsFront before after text)
-  pub no_memory : status ≡ 6 → Appends before after (refusal_output NoMemory).text
+  pub no_memory : status ≡ 6 → Appends before after (refusal_output Refusal.NoMemory).text
   pub too_long : status ≡ 7 → Taken command files before after 7
   pub no_other : status ≤ 7
   -- and it comes there, unless a count rose or memory ran out
@@ -91,5 +93,5 @@ pub data Found : Type 1 where
 
 -- How a call ends that does what words ask for. Words that match no row are refused, whatever the files, and nothing but a failed write keeps status 2 away.
 abbrev pub Does : Found → Option Files → Type 0 → Type 0 → Option (List ℕ) → Option (List ℕ) → ℕ → Type 0
-Does none files shelf_rose sink_rose before after status = Written (refusal_output NoRow) sink_rose before after status
+Does none files shelf_rose sink_rose before after status = Written (refusal_output Refusal.NoRow) sink_rose before after status
 Does (found command) files shelf_rose sink_rose before after status = Answers command files shelf_rose sink_rose before after status

@@ -1,20 +1,14 @@
 -- What a run that was printed promises.
-use Rattle.std.specs.Prelude.{◌≡◌, ℕ, ◌≤◌, List, ◌∷◌, ◌++◌, length, map, Ok}
-use Rattle.std.specs.List.{AllByRecursion}
-use Rattle.fb_text.specs.Unread.{unread}
 use Rattle.trace_text.specs.Ranges.{InRange}
-use Rattle.setup_text.specs.Reading.{setup_at}
-use Rattle.bus_model.specs.Setup.{Setup, AllInClass, script_of}
+use Rattle.bus_model.specs.Setup.{AllInClass, script_of}
 use Rattle.bus_model.specs.Events.{Event, Grant}
-use Rattle.bus_model.specs.Configuration.{opening}
 use Rattle.bus_model.specs.Steps.{CanGrant}
-use Rattle.bus_model.specs.Runs.{Run, Complete, after_all}
 use Rattle.bus_model.specs.Entries.{Entry, entries, entries_of, Legal}
 use Rattle.bus_model.specs.Soundness.{Sound}
-use Rattle.run_text.specs.RunText.{run_text, ending}
-use Rattle.fb_cli.specs.declared.role.Role.TheVariants as roles
-use Rattle.fb_cli.specs.Output.{limit_of}
-use Rattle.fb_cli.specs.Replay.{replay_output}
+use Rattle.fb_cli.specs.Command.{◌≡◌, ℕ, ◌≤◌, List, ◌∷◌, ◌++◌, length, map, Ok, AllByRecursion, unread, setup_at, Role, Setup, limit_of}
+pub use Rattle.bus_model.specs.Configuration.{opening}
+pub use Rattle.bus_model.specs.Runs.{Run, Complete, after_all}
+pub use Rattle.fb_cli.specs.Replay.{run_text, ending, replay_output}
 
 -- What holds of a complete run of a setup with these events: its tables are in the class, each event is a step and has its line, its text is not too long to be replayed, each script is done whole, once and in order, each read gives the latest earlier write, after each event the configuration is sound, which includes that no line has two owners or a shared exclusive copy, and each grant is won by the highest number that competes.
 pub record RunHolds (setup : Setup) (events : List Event) : Type 0 where
@@ -22,7 +16,7 @@ pub record RunHolds (setup : Setup) (events : List Event) : Type 0 where
   pub run : Run setup events (after_all (opening setup) events)
   pub complete : Complete setup (after_all (opening setup) events)
   pub spelled : AllByRecursion InRange events
-  pub short : length (run_text setup events (after_all (opening setup) events)) ≤ limit_of roles.Trace
+  pub short : length (run_text setup events (after_all (opening setup) events)) ≤ limit_of Role.Trace
   pub scripts : (board : ℕ) → map (λ (e : Entry). e.access) (entries_of board (entries events)) ≡ script_of setup board
   pub legal : Legal setup.memory (entries events)
   pub sound : (before rest : List Event) → events ≡ before ++ rest → Sound setup before (after_all (opening setup) before)

@@ -1,13 +1,14 @@
 //! Files that are opened and read, or refused.
 
-ghost use Rattle.std.specs.Prelude.{◌≡◌, ◌≤◌, ◌<◌, ◌^◌, Ok, length, true, IfOk, IfErr};
+ghost use Rattle.std.specs.Prelude.{◌≡◌, ◌≤◌, ◌<◌, ◌^◌, Ok, length, true, IfOk, IfErr, IfSome};
 ghost use Rattle.std.specs.List.{AllByRecursion, list_all};
 ghost use Rattle.fb_edge.specs.Outside.{Rose};
 ghost use Rattle.fb_text.specs.Unread.{unread};
-ghost use Rattle.setup_text.specs.Reading.{schedule_at};
+ghost use Rattle.setup_text.specs.Reading.{schedule_at, setup_at};
 ghost use Rattle.fb_cli.specs.Report.{is_accepted};
-ghost use Rattle.fb_cli.specs.Output.{limit_of, with_accepted, with_setup, with_turns};
-ghost use Rattle.fb_cli.specs.Replies.{Always, AreSetup, Gives, IfAnswered, IsTooLong, Fails, OfFile, Refuses, TellsFault};
+ghost use Rattle.fb_cli.specs.Output.{limit_of, with_accepted, with_file, within};
+ghost use Rattle.fb_cli.specs.Command.{AreSetup};
+ghost use Rattle.fb_cli.specs.Replies.{Gives, IfAnswered, StopsAt, TellsFault};
 
 use crate::answers::{Refusal, Reply, fault_answer, long_answer};
 use crate::report::judge;
@@ -35,10 +36,10 @@ pub fn open<F: Shelf>(
     name: &str,
     shelf: &mut F,
 ) -> Result<Vec<u8>, Reply>
-    ensures bytes { IfOk result (λ bytes. OfFile (F.file shelf.old) name.now (λ known. known ≡ bytes.items)) }
+    ensures bytes { IfOk result (λ bytes. IfSome (F.file shelf.old) (λ file. file name.now ≡ bytes.items)) }
     ensures within { IfOk result (λ bytes. length bytes.items ≤ limit_of role) }
-    ensures stops { IfErr result (Gives (λ o. OfFile (F.file shelf.old) name.now (IsTooLong role o)) (Fails role (Rose (F.faults shelf.old) (F.faults shelf.new)))) }
-    ensures refused { IfErr result (λ reply. IfAnswered reply Refuses) }
+    ensures stops { IfErr result (StopsAt role (F.file shelf.old) name.now (Rose (F.faults shelf.old) (F.faults shelf.new)) (within role)) }
+    ensures refused { IfErr result (IfAnswered (λ o. 0 < o.status)) }
     ensures later { F.faults shelf.old ≤ F.faults shelf.new }
     ensures file { F.file shelf.new ≡ F.file shelf.old }
 {
@@ -53,7 +54,7 @@ pub fn open<F: Shelf>(
 /// The reply where a text was not read.
 pub fn refuse(alloc: Global, role: Role, fault: SetupFault) -> Reply
     ensures told { Gives (TellsFault role fault) (λ other. ⊥) result }
-    ensures refused { IfAnswered result Refuses }
+    ensures refused { IfAnswered (λ o. 0 < o.status) result }
 {
     match fault {
         SetupFault::Bad { line, kind } => Reply::of(fault_answer(alloc, role, line, kind)),
@@ -63,9 +64,9 @@ pub fn refuse(alloc: Global, role: Role, fault: SetupFault) -> Reply
 
 /// Opens a setup.
 pub fn open_setup<F: Shelf>(alloc: Global, name: &str, shelf: &mut F) -> Result<Setup, Reply>
-    ensures setup { IfOk result (λ setup. OfFile (F.file shelf.old) name.now (AreSetup setup)) }
-    ensures stops { IfErr result (Gives (λ o. OfFile (F.file shelf.old) name.now (λ bytes. Always (with_setup bytes) o)) (Fails Role.Setup (Rose (F.faults shelf.old) (F.faults shelf.new)))) }
-    ensures refused { IfErr result (λ reply. IfAnswered reply Refuses) }
+    ensures setup { IfOk result (λ setup. IfSome (F.file shelf.old) (λ file. AreSetup setup (file name.now))) }
+    ensures stops { IfErr result (StopsAt Role.Setup (F.file shelf.old) name.now (Rose (F.faults shelf.old) (F.faults shelf.new)) (with_file Role.Setup setup_at)) }
+    ensures refused { IfErr result (IfAnswered (λ o. 0 < o.status)) }
     ensures later { F.faults shelf.old ≤ F.faults shelf.new }
     ensures file { F.file shelf.new ≡ F.file shelf.old }
 {
@@ -78,10 +79,10 @@ pub fn open_setup<F: Shelf>(alloc: Global, name: &str, shelf: &mut F) -> Result<
 
 /// Opens a setup whose tables are in the class.
 pub fn open_accepted<F: Shelf>(alloc: Global, name: &str, shelf: &mut F) -> Result<Setup, Reply>
-    ensures setup { IfOk result (λ setup. OfFile (F.file shelf.old) name.now (AreSetup setup)) }
+    ensures setup { IfOk result (λ setup. IfSome (F.file shelf.old) (λ file. AreSetup setup (file name.now))) }
     ensures accepted { IfOk result (λ setup. list_all is_accepted setup.tables ≡ true) }
-    ensures stops { IfErr result (Gives (λ o. OfFile (F.file shelf.old) name.now (λ bytes. Always (with_accepted bytes) o)) (Fails Role.Setup (Rose (F.faults shelf.old) (F.faults shelf.new)))) }
-    ensures refused { IfErr result (λ reply. IfAnswered reply Refuses) }
+    ensures stops { IfErr result (StopsAt Role.Setup (F.file shelf.old) name.now (Rose (F.faults shelf.old) (F.faults shelf.new)) with_accepted) }
+    ensures refused { IfErr result (IfAnswered (λ o. 0 < o.status)) }
     ensures later { F.faults shelf.old ≤ F.faults shelf.new }
     ensures file { F.file shelf.new ≡ F.file shelf.old }
 {
@@ -101,11 +102,11 @@ pub fn open_schedule<F: Shelf>(
 ) -> Result<Vec<u8>, Reply>
     requires low { 1 ≤ boards }
     requires high { boards ≤ 16 }
-    ensures short { IfOk result (λ turns. OfFile (F.file shelf.old) name.now (λ bytes. length bytes ≤ limit_of Role.Schedule)) }
-    ensures turns { IfOk result (λ turns. OfFile (F.file shelf.old) name.now (λ bytes. schedule_at boards (unread bytes) ≡ Ok turns.items)) }
+    ensures short { IfOk result (λ turns. IfSome (F.file shelf.old) (λ file. length (file name.now) ≤ limit_of Role.Schedule)) }
+    ensures turns { IfOk result (λ turns. IfSome (F.file shelf.old) (λ file. schedule_at boards (unread (file name.now)) ≡ Ok turns.items)) }
     ensures places { IfOk result (λ turns. AllByRecursion (λ p. (1 ≤ p) × (p ≤ boards)) turns.items) }
-    ensures stops { IfErr result (Gives (λ o. OfFile (F.file shelf.old) name.now (λ bytes. Always (with_turns boards bytes) o)) (Fails Role.Schedule (Rose (F.faults shelf.old) (F.faults shelf.new)))) }
-    ensures refused { IfErr result (λ reply. IfAnswered reply Refuses) }
+    ensures stops { IfErr result (StopsAt Role.Schedule (F.file shelf.old) name.now (Rose (F.faults shelf.old) (F.faults shelf.new)) (with_file Role.Schedule (schedule_at boards))) }
+    ensures refused { IfErr result (IfAnswered (λ o. 0 < o.status)) }
     ensures later { F.faults shelf.old ≤ F.faults shelf.new }
     ensures file { F.file shelf.new ≡ F.file shelf.old }
 {

@@ -4,7 +4,8 @@ ghost use Rattle.std.specs.Prelude.{◌≡◌, true, IfOk};
 ghost use Rattle.std.specs.List.{list_all};
 ghost use Rattle.fb_edge.specs.Outside.{Rose};
 ghost use Rattle.fb_cli.specs.Report.{is_accepted};
-ghost use Rattle.fb_cli.specs.Race.{IsRunOutput, race};
+ghost use Rattle.fb_cli.specs.Race.{race};
+ghost use Rattle.fb_cli.specs.Headline.{IsTextOfRun};
 ghost use Rattle.fb_cli.specs.Replies.{Comes, answer_output};
 
 use crate::answers::{Answer, Reply};
@@ -31,7 +32,8 @@ fn raced<G: Gate + Sync, R: Threads + Wait + Sync>(
     gate: &G,
 ) -> Result<Answer, NoMemory>
     requires { list_all is_accepted setup.tables ≡ true }
-    ensures { IfOk result (λ answer. IsRunOutput setup (answer_output answer)) }
+    ensures done { IfOk result (λ answer. (answer_output answer).status ≡ 0) }
+    ensures run { IfOk result (λ answer. IsTextOfRun setup (answer_output answer).text) }
 {
     let room = Room::new(alloc)?;
     let machine = start(alloc, setup)?;

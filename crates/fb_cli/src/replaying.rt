@@ -1,12 +1,13 @@
 //! `replay`: a trace replayed on a setup, read piece by piece.
 
-ghost use Rattle.std.specs.Prelude.{◌≡◌, ◌≤◌, ◌<◌, ◌^◌, [], true, Ok, length, IfOk, IfErr, IfSome, OnOk};
+ghost use Rattle.std.specs.Prelude.{◌≡◌, ◌≤◌, ◌<◌, ◌^◌, [], true, Ok, Err, length, IfOk, IfErr, IfSome, OnOk, option_map};
 ghost use Rattle.std.specs.List.{list_all};
 ghost use Rattle.fb_edge.specs.Outside.{Rose};
 ghost use Rattle.backplane.specs.Machine.{opened};
+ghost use Rattle.replayer.specs.Replaying.{replayed};
 ghost use Rattle.fb_cli.specs.Report.{is_accepted};
-ghost use Rattle.fb_cli.specs.Replay.{FedWith, FeedCause, IsReplayed, TraceCause, replay, trace_fault, trace_output};
-ghost use Rattle.fb_cli.specs.Replies.{Comes, Gives, Fails, OfFile, answer_output};
+ghost use Rattle.fb_cli.specs.Replay.{FedWith, TraceCause, on_replayed, replay, trace_output};
+ghost use Rattle.fb_cli.specs.Replies.{Comes, Gives, answer_output};
 
 use crate::answers::{Answer, LINE, Outcome, Refusal, Reply, long_answer};
 use crate::opening::{limit_of, open_accepted};
@@ -18,10 +19,9 @@ use backplane::Machine;
 use fb_edge::Shelf;
 use fb_text::Text;
 use no_memory::NoMemory;
-use replayer::Replay;
+use replayer::{Replay, ReplayFault};
 use setup::Setup;
 use std::alloc::Global;
-use replayer::ReplayFault;
 
 #[cfg(test)]
 mod tests;
@@ -45,7 +45,7 @@ fn feed_all<F: Shelf>(replay: &mut Replay, shelf: &mut F, limit: u64) -> Result<
     requires limit { limit < 2 ^ 63 }
     ensures setup { replay.new.setup ≡ replay.old.setup }
     ensures fed { OnOk result (IfSome (F.rest shelf.old) (λ bytes. (length bytes ≤ limit) × FedWith replay.old bytes replay.new)) }
-    ensures fault { IfErr result (FeedCause (F.rest shelf.old) limit (Rose (F.faults shelf.old) (F.faults shelf.new))) }
+    ensures fault { IfErr result (TraceCause (F.rest shelf.old) limit (Rose (F.faults shelf.old) (F.faults shelf.new)) (λ fault. ⊥)) }
     ensures later { F.faults shelf.old ≤ F.faults shelf.new }
     ensures file { F.file shelf.new ≡ F.file shelf.old }
 {
@@ -75,8 +75,10 @@ pub fn replay_file<F: Shelf>(
 ) -> Result<Machine, TraceFileFault>
     requires opening { machine.journal ≡ [] }
     requires limit { limit < 2 ^ 63 }
-    ensures replayed { IfOk result (λ m. OfFile (F.file shelf.old) name.now (IsReplayed machine limit (Ok m))) }
-    ensures fault { IfErr result (TraceCause (F.file shelf.old) name.now limit machine (Rose (F.faults shelf.old) (F.faults shelf.new))) }
+    ensures short { IfOk result (λ m. IfSome (F.file shelf.old) (λ file. length (file name.now) ≤ limit)) }
+    ensures replayed { IfOk result (λ m. IfSome (F.file shelf.old) (λ file. replayed machine (file name.now) ≡ Ok m)) }
+    ensures fault { IfErr result (TraceCause (option_map (λ file. file name.now) (F.file shelf.old)) limit (Rose (F.faults shelf.old) (F.faults shelf.new))
+        (λ fault. IfSome (F.file shelf.old) (λ file. (length (file name.now) ≤ limit) × (replayed machine (file name.now) ≡ Err fault)))) }
     ensures later { F.faults shelf.old ≤ F.faults shelf.new }
     ensures file { F.file shelf.new ≡ F.file shelf.old }
 {
@@ -95,7 +97,7 @@ pub fn replay_file<F: Shelf>(
 
 /// The answer where a trace is not that of a complete run.
 fn trace_answer(alloc: Global, fault: ReplayFault) -> Result<Answer, NoMemory>
-    ensures output { IfOk result (λ answer. answer_output answer ≡ trace_fault fault) }
+    ensures output { IfOk result (λ answer. answer_output answer ≡ on_replayed (Err fault)) }
 {
     let mut text = Text::new(alloc);
     text.reserve(LINE)?;
@@ -125,7 +127,7 @@ fn trace_answer(alloc: Global, fault: ReplayFault) -> Result<Answer, NoMemory>
 /// The ending of the run of a file's trace on a machine at its opening.
 fn traced<F: Shelf>(alloc: Global, machine: Machine, name: &str, shelf: &mut F) -> Reply
     requires opening { machine.journal ≡ [] }
-    ensures { Gives (λ o. OfFile (F.file shelf.old) name.now (λ bytes. o ≡ trace_output machine bytes)) (Fails Role.Trace (Rose (F.faults shelf.old) (F.faults shelf.new))) result }
+    ensures { Gives (λ o. IfSome (F.file shelf.old) (λ file. o ≡ trace_output machine (file name.now))) (λ role. (role ≡ Role.Trace) × (Rose (F.faults shelf.old) (F.faults shelf.new))) result }
 {
     let Ok(room) = Room::new(alloc) else {
         return Reply::Refused(Refusal::NoMemory);
@@ -143,7 +145,7 @@ fn traced<F: Shelf>(alloc: Global, machine: Machine, name: &str, shelf: &mut F) 
 /// The ending of the run of a file's trace on a setup whose tables are accepted.
 fn ended<F: Shelf>(alloc: Global, setup: Setup, name: &str, shelf: &mut F) -> Reply
     requires { list_all is_accepted setup.tables ≡ true }
-    ensures { Gives (λ o. OfFile (F.file shelf.old) name.now (λ bytes. o ≡ trace_output (opened setup) bytes)) (Fails Role.Trace (Rose (F.faults shelf.old) (F.faults shelf.new))) result }
+    ensures { Gives (λ o. IfSome (F.file shelf.old) (λ file. o ≡ trace_output (opened setup) (file name.now))) (λ role. (role ≡ Role.Trace) × (Rose (F.faults shelf.old) (F.faults shelf.new))) result }
 {
     match start(alloc, setup) {
         Ok(machine) => traced(alloc, machine, name, shelf),

@@ -1,13 +1,12 @@
 //! The report of the checker on tables.
 
-ghost use Rattle.std.specs.Prelude.{◌≡◌, ◌≤◌, ◌+◌, ◌++◌, ◌∷◌, [], length, flat_map, OnOk, IfOk, IfErr, true, if◌then◌else◌};
+ghost use Rattle.std.specs.Prelude.{◌≡◌, ◌<◌, ◌≤◌, ◌+◌, ◌++◌, ◌∷◌, [], length, flat_map, OnOk, IfOk, IfErr, true, if◌then◌else◌};
 ghost use Rattle.std.specs.List.{list_all};
 ghost use Rattle.fb_text.specs.Written.{after_words, line_bytes};
 ghost use Rattle.table_check.specs.Accepted.{faults};
-ghost use Rattle.table_check.specs.declared.verdict.CellFault.TheVariants.{NotPermitted, Missing};
-ghost use Rattle.fb_cli.specs.Report.{is_accepted, cell_name, alternative_of, fault_bytes, verdict_words, verdict_line, report_on, report};
-ghost use Rattle.fb_cli.specs.Output.{if_accepted, report_output};
-ghost use Rattle.fb_cli.specs.Replies.{Always, Gives, IfAnswered, Refuses, answer_output};
+ghost use Rattle.fb_cli.specs.Report.{is_accepted, cell_name, alternative_of, fault_bytes, verdict_line, report_on, report};
+ghost use Rattle.fb_cli.specs.Output.{Output, if_accepted, report_output};
+ghost use Rattle.fb_cli.specs.Replies.{Gives, IfAnswered, answer_output};
 
 use crate::answers::{Answer, Outcome, Refusal, Reply};
 use crate::words::{number, word};
@@ -65,7 +64,7 @@ fn write_alternative(table: &Table, cell: Cell, number: u8, text: &mut Text)
 /// The line of an alternative that is not permitted.
 fn write_forbidden(table: &Table, cell: Cell, number_in_cell: u8, text: &mut Text)
     requires { 80 ≤ text.old.spare }
-    ensures { text.new.bytes ≡ text.old.bytes ++ fault_bytes table.now (NotPermitted cell number_in_cell) }
+    ensures { text.new.bytes ≡ text.old.bytes ++ fault_bytes table.now (CellFault.NotPermitted cell number_in_cell) }
 {
     text.push(b"not-permitted");
     write_cell(cell, text);
@@ -78,7 +77,7 @@ fn write_forbidden(table: &Table, cell: Cell, number_in_cell: u8, text: &mut Tex
 /// The line of a missing cell.
 fn write_missing(table: &Table, cell: Cell, text: &mut Text)
     requires { 80 ≤ text.old.spare }
-    ensures { text.new.bytes ≡ text.old.bytes ++ fault_bytes table.now (Missing cell) }
+    ensures { text.new.bytes ≡ text.old.bytes ++ fault_bytes table.now (CellFault.Missing cell) }
 {
     text.push(b"missing");
     write_cell(cell, text);
@@ -101,20 +100,6 @@ fn write_faults(table: &Table, faults: &[CellFault], text: &mut Text) -> Result<
     Ok(())
 }
 
-/// What is said of a table with so many faults, and the end of the line.
-fn write_count(count: usize, text: &mut Text)
-    requires { 32 ≤ text.old.spare }
-    ensures { text.new.bytes ≡ text.old.bytes ++ (after_words (verdict_words count) ++ 10 ∷ []) }
-{
-    if count == 0 {
-        text.push(b" accepted\n");
-        return;
-    }
-    text.push(b" refused ");
-    number(text, count as u64);
-    text.push(b"\n");
-}
-
 /// The first line of the report on a table with these faults.
 fn write_verdict(table: &Table, faults: &[CellFault], text: &mut Text) -> Result<(), NoMemory>
     ensures { OnOk result (text.new.bytes ≡ text.old.bytes ++ line_bytes (verdict_line table.now.name faults.now)) }
@@ -124,7 +109,13 @@ fn write_verdict(table: &Table, faults: &[CellFault], text: &mut Text) -> Result
     text.push(b"table ");
     text.push(name.bytes());
     text.push(b":");
-    write_count(faults.len(), text);
+    if faults.is_empty() {
+        text.push(b" accepted\n");
+        return Ok(());
+    }
+    text.push(b" refused ");
+    number(text, faults.len() as u64);
+    text.push(b"\n");
     Ok(())
 }
 
@@ -192,8 +183,8 @@ pub fn report_on(alloc: Global, tables: &[Table]) -> Reply
 /// Goes on where each table of a setup is in the class, and else stops with the report.
 pub fn judge(alloc: Global, setup: &Setup) -> Result<(), Reply>
     ensures accepted { OnOk result (list_all is_accepted setup.now.tables ≡ true) }
-    ensures stops { IfErr result (Gives (Always (if_accepted setup.now)) (λ role. ⊥)) }
-    ensures refused { IfErr result (λ reply. IfAnswered reply Refuses) }
+    ensures stops { IfErr result (Gives (λ o. (wanted : Output) → o ≡ if_accepted setup.now wanted) (λ role. ⊥)) }
+    ensures refused { IfErr result (IfAnswered (λ o. 0 < o.status)) }
 {
     match report_of(alloc, setup.tables()) {
         Ok(report) if report.accepted => Ok(()),

@@ -1,13 +1,14 @@
 //! `run`: a setup played by a schedule, or by the seeded schedule of a number.
 
-ghost use Rattle.std.specs.Prelude.{◌≡◌, ◌≤◌, length, true, IfOk};
+ghost use Rattle.std.specs.Prelude.{◌≡◌, ◌≤◌, length, true, IfOk, IfSome};
 ghost use Rattle.std.specs.List.{AllByRecursion, list_all};
 ghost use Rattle.fb_edge.specs.Outside.{Rose};
+ghost use Rattle.setup_text.specs.Reading.{schedule_at};
 ghost use Rattle.fb_cli.specs.Report.{is_accepted};
-ghost use Rattle.fb_cli.specs.Output.{if_accepted, with_turns};
+ghost use Rattle.fb_cli.specs.Output.{if_accepted, with_file};
 ghost use Rattle.fb_cli.specs.Run.{played_output, run, run_seeded, turns_of};
 ghost use Rattle.fb_cli.specs.Headline.{IsTextOfRun};
-ghost use Rattle.fb_cli.specs.Replies.{Comes, Gives, IfAnswered, Fails, OfFile, answer_output};
+ghost use Rattle.fb_cli.specs.Replies.{Comes, Gives, IfAnswered, answer_output};
 
 use crate::answers::{Answer, Reply};
 use crate::opening::{open_accepted, open_schedule, open_setup};
@@ -54,7 +55,7 @@ fn play_seed(alloc: Global, setup: Setup, seed: u64) -> Result<Answer, NoMemory>
 fn judged(alloc: Global, setup: Setup, turns: &[u8]) -> Reply
     requires { AllByRecursion (λ p. (1 ≤ p) × (p ≤ length setup.boards)) turns.now }
     ensures gives { Gives (λ o. o ≡ if_accepted setup (played_output setup turns.now)) (λ role. ⊥) result }
-    ensures run { IfAnswered result (λ o. o.status ≡ 0 → IsTextOfRun setup o.text) }
+    ensures run { IfAnswered (λ o. o.status ≡ 0 → IsTextOfRun setup o.text) result }
 {
     match judge(alloc, &setup) {
         Ok(()) => Reply::of(play_turns(alloc, setup, turns)),
@@ -64,8 +65,8 @@ fn judged(alloc: Global, setup: Setup, turns: &[u8]) -> Reply
 
 /// The run of a setup by the schedule of a file.
 fn scheduled<F: Shelf>(alloc: Global, setup: Setup, name: &str, shelf: &mut F) -> Reply
-    ensures gives { Gives (λ o. OfFile (F.file shelf.old) name.now (λ bytes. o ≡ with_turns (length setup.boards) bytes (λ turns. if_accepted setup (played_output setup turns)))) (Fails Role.Schedule (Rose (F.faults shelf.old) (F.faults shelf.new))) result }
-    ensures run { IfAnswered result (λ o. o.status ≡ 0 → IsTextOfRun setup o.text) }
+    ensures gives { Gives (λ o. IfSome (F.file shelf.old) (λ file. o ≡ with_file Role.Schedule (schedule_at (length setup.boards)) (file name.now) (λ turns. if_accepted setup (played_output setup turns)))) (λ role. (role ≡ Role.Schedule) × (Rose (F.faults shelf.old) (F.faults shelf.new))) result }
+    ensures run { IfAnswered (λ o. o.status ≡ 0 → IsTextOfRun setup o.text) result }
 {
     match open_schedule(alloc, name, setup.boards().len() as u8, shelf) {
         Ok(turns) => judged(alloc, setup, &turns),

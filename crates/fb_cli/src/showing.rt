@@ -2,7 +2,8 @@
 
 ghost use Rattle.std.specs.Prelude.{◌≡◌};
 ghost use Rattle.fb_edge.specs.Outside.{Rose};
-ghost use Rattle.fb_cli.specs.Show.{show, shown_output};
+ghost use Rattle.fb_cli.specs.Show.{show};
+ghost use Rattle.setup_text.specs.Writing.{written_setup};
 ghost use Rattle.fb_cli.specs.Replies.{Comes, Gives};
 
 use crate::answers::{Answer, Outcome, Refusal, Reply};
@@ -18,7 +19,7 @@ mod tests;
 
 /// The written spelling of a setup.
 pub fn written(alloc: Global, setup: &Setup) -> Reply
-    ensures { Gives (λ o. o ≡ shown_output setup.now) (λ role. ⊥) result }
+    ensures { Gives (λ o. o ≡ record { status = 0; text = written_setup setup.now }) (λ role. ⊥) result }
 {
     let mut text = Text::new(alloc);
     match write_setup(setup, &mut text) {

@@ -15,8 +15,7 @@ use crate::room::Room;
 use backplane::{AssembleFault, Machine, assemble};
 use journal::Event;
 use no_memory::NoMemory;
-use run_text::{is_typed, runs_are_spelled};
-use run_text::run_texts_fit;
+use run_text::{is_typed, run_texts_fit, runs_are_spelled};
 use setup::Setup;
 use std::alloc::Global;
 
