@@ -14,6 +14,9 @@ pub all-accepted : (tables : List Table) → All InClass tables → list_all is_
 all-accepted tables each = list_all-from_AllPass is_accepted tables (λ i d less. ap is_empty (each i d less))
 
 -- What is known of one setup is known of what was made of it.
-pub made-accepted : {E : Type 0} (setup : Setup) (made : Result Setup E) → list_all is_accepted setup.tables ≡ true → IfOk made (λ s. s ≡ setup) → IfOk made (λ s. list_all is_accepted s.tables ≡ true)
-made-accepted setup (Ok s) accepted same = subst (λ (x : Setup). list_all is_accepted x.tables ≡ true) (sym same) accepted
+pub made-accepted :
+    {E : Type 0} (setup : Setup) (made : Result Setup E) → list_all is_accepted setup.tables ≡ true
+    → IfOk made (λ s. s ≡ setup) → IfOk made (λ s. list_all is_accepted s.tables ≡ true)
+made-accepted setup (Ok s) accepted same =
+    subst (λ (x : Setup). list_all is_accepted x.tables ≡ true) (sym same) accepted
 made-accepted setup (Err e) accepted same = tt

@@ -34,26 +34,35 @@ end_line rest = append_assoc (codes "end") (10 ∷ []) rest
 -- The trace of the text of a run is the lines of its events.
 traced : (events : List Event) (rest : List ℕ) → AllByRecursion InRange events
     → trace_of (flat_map line_of_event events ++ (line_bytes (codes "end" ∷ []) ++ rest)) ≡ event_lines events
-traced events rest spelled = ap (λ end. trace_of (flat_map line_of_event events ++ end)) (end_line rest) ∙ printed events rest spelled
+traced events rest spelled =
+    ap (λ end. trace_of (flat_map line_of_event events ++ end)) (end_line rest) ∙ printed events rest spelled
 
 -- The text of a run is replayed, and gives the machine of the run.
 run_replayed : (setup : Setup) (events : List Event) → RunHolds setup events
-    → replayed (opened setup) (run_text setup events (after_all (opening setup) events)) ≡ Ok (record { setup = setup; journal = events })
+    → replayed (opened setup) (run_text setup events (after_all (opening setup) events))
+    ≡ Ok (record { setup = setup; journal = events })
 run_replayed setup events holds =
     let rest = ending setup events (after_all (opening setup) events) in
     let lines = traced events rest holds.spelled in
     accepts setup (trace_of (run_text setup events (after_all (opening setup) events))) 1 events
-    (record { run = record { spelled = holds.spelled; are = lines ∙ sym (append-nil (event_lines events)); run = holds.run }; complete = holds.complete })
+    (record {
+      run =
+          record { spelled = holds.spelled; are = lines ∙ sym (append-nil (event_lines events)); run = holds.run };
+      complete = holds.complete;
+    })
 
 -- A file that is not too long is not refused for its length.
-pub is_within : (role : Role) (bytes : List ℕ) (wanted : Output) → length bytes ≤ limit_of role → within role bytes wanted ≡ wanted
-is_within role bytes wanted short = let no : nat_lt (limit_of role) (length bytes) ≡ false = grind (arith, nat_tests) in rw no refl
+pub is_within :
+    (role : Role) (bytes : List ℕ) (wanted : Output) → length bytes ≤ limit_of role → within role bytes wanted ≡ wanted
+is_within role bytes wanted short =
+    let no : nat_lt (limit_of role) (length bytes) ≡ false = grind (arith, nat_tests) in rw no refl
 
 -- The output that a setup of a file asks for.
 pub with_setup_is : (bytes : List ℕ) (setup : Setup) (wanted : Setup → Output) → AreSetup setup bytes
     → with_file roles.Setup setup_at bytes wanted ≡ wanted setup
 with_setup_is bytes setup wanted read =
-    is_within roles.Setup bytes (on_read roles.Setup wanted (setup_at (unread bytes))) read.0 ∙ ap (on_read roles.Setup wanted) read.1
+    is_within roles.Setup bytes (on_read roles.Setup wanted (setup_at (unread bytes))) read.0
+    ∙ ap (on_read roles.Setup wanted) read.1
 
 -- The output that an accepted setup of a file asks for.
 pub with_accepted_is : (bytes : List ℕ) (setup : Setup) (wanted : Setup → Output) → AreSetup setup bytes
@@ -62,8 +71,10 @@ with_accepted_is bytes setup wanted read accepted =
     with_setup_is bytes setup (λ s. if_accepted s (wanted s)) read
     ∙ ap (λ b. if b then wanted setup else report_output setup.tables) accepted
 
-pub replayed_alike : (bytes : List ℕ) (setup : Setup) (events : List Event) → AreSetup setup bytes → RunHolds setup events
-    → replay_output bytes (run_text setup events (after_all (opening setup) events)) ≡ record { status = 0; text = ending setup events (after_all (opening setup) events) }
+pub replayed_alike :
+    (bytes : List ℕ) (setup : Setup) (events : List Event) → AreSetup setup bytes → RunHolds setup events
+    → replay_output bytes (run_text setup events (after_all (opening setup) events))
+    ≡ record { status = 0; text = ending setup events (after_all (opening setup) events) }
 replayed_alike bytes setup events read holds =
     let text = run_text setup events (after_all (opening setup) events) in
     with_accepted_is bytes setup (λ s. trace_output (opened s) text) read (all-accepted setup.tables holds.accepted)

@@ -14,7 +14,11 @@ use Rattle.fb_cli.specs.Tally.{tally_output}
 -- The journal of a machine of the generated setup, after the seeded schedule was played on it.
 journal_is : (seed : ℕ) (setup : Setup) (first last : Machine) (accesses : ℕ) (journal : List Event)
     → setup ≡ generated seed → first ≡ opened setup → accesses ≡ access_count setup
-    → last ≡ record { setup = first.setup; journal = played first.setup (seeded_turns seed (length first.setup.boards) accesses) }
+    → last
+    ≡ record {
+      setup = first.setup;
+      journal = played first.setup (seeded_turns seed (length first.setup.boards) accesses);
+    }
     → journal ≡ last.journal → journal ≡ played (generated seed) (turns_of seed (generated seed))
 journal_is seed setup first last accesses journal made start counted turned same =
     same
@@ -23,14 +27,20 @@ journal_is seed setup first last accesses journal made start counted turned same
     ∙ ap (λ (n : ℕ). played setup (seeded_turns seed (length setup.boards) n)) counted
     ∙ ap (λ (s : Setup). played s (seeded_turns seed (length s.boards) (access_count s))) made
 
-pub counted_output : (seed : ℕ) (setup : Setup) (first last : Machine) (accesses : ℕ) (journal : List Event) (before bytes : List ℕ)
+pub counted_output :
+    (seed : ℕ) (setup : Setup) (first last : Machine) (accesses : ℕ) (journal : List Event) (before bytes : List ℕ)
     → setup ≡ generated seed → first ≡ opened setup → accesses ≡ access_count setup
-    → last ≡ record { setup = first.setup; journal = played first.setup (seeded_turns seed (length first.setup.boards) accesses) }
+    → last
+    ≡ record {
+      setup = first.setup;
+      journal = played first.setup (seeded_turns seed (length first.setup.boards) accesses);
+    }
     → journal ≡ last.journal → before ≡ [] → bytes ≡ before ++ tally_text seed journal (entries journal)
     → record { status = 0; text = bytes } ≡ tally_output seed
 counted_output seed setup first last accesses journal before bytes made start counted turned same empty written =
     let text =
     written
     ∙ ap (λ (b : List ℕ). b ++ tally_text seed journal (entries journal)) empty
-    ∙ ap (λ (j : List Event). tally_text seed j (entries j)) (journal_is seed setup first last accesses journal made start counted turned same) in
+    ∙ ap (λ (j : List Event). tally_text seed j (entries j))
+    (journal_is seed setup first last accesses journal made start counted turned same) in
     λ i. record { status = 0; text = text i }

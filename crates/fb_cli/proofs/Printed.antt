@@ -20,22 +20,32 @@ record IsOutcome (status : ℕ) : Type 0 where
   not_4_to_6 : 3 < status → 6 < status
 
 is_outcome : (a : Answer) → IsOutcome (answer_output a).status
-is_outcome (Said outcomes.Done text) = record { most = omega arith; not_2 = λ two. omega (arith, two); not_4_to_6 = λ high. omega (arith, high) }
-is_outcome (Said outcomes.Refused text) = record { most = omega arith; not_2 = λ two. omega (arith, two); not_4_to_6 = λ high. omega (arith, high) }
-is_outcome (Said outcomes.Malformed text) = record { most = omega arith; not_2 = λ two. omega (arith, two); not_4_to_6 = λ high. omega (arith, high) }
-is_outcome (Said outcomes.TooLong text) = record { most = omega arith; not_2 = λ two. omega (arith, two); not_4_to_6 = λ high. omega (arith, high) }
-is_outcome (Ran machine room) = record { most = omega arith; not_2 = λ two. omega (arith, two); not_4_to_6 = λ high. omega (arith, high) }
-is_outcome (Replayed machine room) = record { most = omega arith; not_2 = λ two. omega (arith, two); not_4_to_6 = λ high. omega (arith, high) }
+is_outcome (Said outcomes.Done text) =
+    record { most = omega arith; not_2 = λ two. omega (arith, two); not_4_to_6 = λ high. omega (arith, high) }
+is_outcome (Said outcomes.Refused text) =
+    record { most = omega arith; not_2 = λ two. omega (arith, two); not_4_to_6 = λ high. omega (arith, high) }
+is_outcome (Said outcomes.Malformed text) =
+    record { most = omega arith; not_2 = λ two. omega (arith, two); not_4_to_6 = λ high. omega (arith, high) }
+is_outcome (Said outcomes.TooLong text) =
+    record { most = omega arith; not_2 = λ two. omega (arith, two); not_4_to_6 = λ high. omega (arith, high) }
+is_outcome (Ran machine room) =
+    record { most = omega arith; not_2 = λ two. omega (arith, two); not_4_to_6 = λ high. omega (arith, high) }
+is_outcome (Replayed machine room) =
+    record { most = omega arith; not_2 = λ two. omega (arith, two); not_4_to_6 = λ high. omega (arith, high) }
 
 -- The status of a command, or want of memory, unless a count rose.
 abbrev Exact : Command → Option Files → Type 0 → Type 0 → ℕ → Type 0
-Exact command k A B status = IfSome k (λ bytes_of. (A → ⊥) → (B → ⊥) → (status ≡ command.status bytes_of) ⊎ (status ≡ 6))
+Exact command k A B status =
+    IfSome k (λ bytes_of. (A → ⊥) → (B → ⊥) → (status ≡ command.status bytes_of) ⊎ (status ≡ 6))
 
-as_known : (command : Command) (k : Option Files) (A B : Type 0) (o : Output) (status : ℕ) → IfSome k (λ bytes_of. IsAnswer command bytes_of o) → status ≡ o.status → Exact command k A B status
+as_known :
+    (command : Command) (k : Option Files) (A B : Type 0) (o : Output) (status : ℕ)
+    → IfSome k (λ bytes_of. IsAnswer command bytes_of o) → status ≡ o.status → Exact command k A B status
 as_known command None A B o status asked is = tt
 as_known command (Some bytes_of) A B o status asked is = λ _ _. inl (is ∙ asked.settled)
 
-no_memory_left : (command : Command) (k : Option Files) (A B : Type 0) (status : ℕ) → status ≡ 6 → Exact command k A B status
+no_memory_left :
+    (command : Command) (k : Option Files) (A B : Type 0) (status : ℕ) → status ≡ 6 → Exact command k A B status
 no_memory_left command None A B status is = tt
 no_memory_left command (Some bytes_of) A B status is = λ _ _. inr is
 
@@ -54,8 +64,11 @@ shelf_rose (file ∷ more) files A role (inl (same, after, rose)) = rose
 shelf_rose (file ∷ more) files A role (inr later) = shelf_rose more files A role later
 
 -- A write failed.
-cut_short : (command : Command) (files : Option Files) (A B : Type 0) (before after : Option (List ℕ)) (text : List ℕ) (status : ℕ)
-    → Due command files A text → status ≡ 5 → B → AppendsFront before after text → Answers command files A B before after status
+cut_short :
+    (command : Command) (files : Option Files) (A B : Type 0) (before after : Option (List ℕ)) (text : List ℕ)
+    (status : ℕ)
+    → Due command files A text → status ≡ 5 → B → AppendsFront before after text
+    → Answers command files A B before after status
 cut_short command files A B before after text status due is rose front = record {
   done = λ s. absurd (omega arith);
   refused = λ s. absurd (omega arith);
@@ -70,9 +83,12 @@ cut_short command files A B before after text status due is rose front = record 
 }
 
 -- An answer was printed.
-was_said : (command : Command) (files : Option Files) (A B : Type 0) (before after : Option (List ℕ)) (o : Output) (status : ℕ)
-    → Asked command files o → IsOutcome o.status → Written o B before after status → Answers command files A B before after status
-was_said command files A B before after o status asked outcome (inr (is, rose, front)) = cut_short command files A B before after o.text status (inl (o, asked, refl)) is rose front
+was_said :
+    (command : Command) (files : Option Files) (A B : Type 0) (before after : Option (List ℕ)) (o : Output) (status : ℕ)
+    → Asked command files o → IsOutcome o.status → Written o B before after status
+    → Answers command files A B before after status
+was_said command files A B before after o status asked outcome (inr (is, rose, front)) =
+    cut_short command files A B before after o.text status (inl (o, asked, refl)) is rose front
 was_said command files A B before after o status asked outcome (inl (is, taken)) = record {
   done = λ s. (o, asked, sym is ∙ s, taken);
   refused = λ s. (o, asked, sym is ∙ s, taken);
@@ -87,8 +103,11 @@ was_said command files A B before after o status asked outcome (inl (is, taken))
 }
 
 -- A file was not read.
-was_unread : (command : Command) (files : Option Files) (A B : Type 0) (before after : Option (List ℕ)) (role : Role) (status : ℕ)
-    → IsUnread command.opens files A role → Written (refusal_output (Unread role)) B before after status → Answers command files A B before after status
+was_unread :
+    (command : Command) (files : Option Files) (A B : Type 0) (before after : Option (List ℕ)) (role : Role)
+    (status : ℕ)
+    → IsUnread command.opens files A role → Written (refusal_output (Unread role)) B before after status
+    → Answers command files A B before after status
 was_unread command files A B before after role status unread (inr (is, rose, front)) =
     cut_short command files A B before after _ status (inr (inl (role, unread, refl))) is rose front
 was_unread command files A B before after role status unread (inl (is, taken)) = record {
@@ -107,7 +126,8 @@ was_unread command files A B before after role status unread (inl (is, taken)) =
 -- Memory ran out.
 had_no_memory : (command : Command) (files : Option Files) (A B : Type 0) (before after : Option (List ℕ)) (status : ℕ)
     → Written (refusal_output NoMemory) B before after status → Answers command files A B before after status
-had_no_memory command files A B before after status (inr (is, rose, front)) = cut_short command files A B before after _ status (inr (inr refl)) is rose front
+had_no_memory command files A B before after status (inr (is, rose, front)) =
+    cut_short command files A B before after _ status (inr (inr refl)) is rose front
 had_no_memory command files A B before after status (inl (is, taken)) = record {
   done = λ s. absurd (omega arith);
   refused = λ s. absurd (omega arith);
@@ -122,15 +142,25 @@ had_no_memory command files A B before after status (inl (is, taken)) = record {
 }
 
 -- What a command came to was printed.
-answers : (command : Command) (files : Option Files) (A B : Type 0) (before after : Option (List ℕ)) (reply : Reply) (status : ℕ)
-    → Comes command files A reply → Written (reply_output reply) B before after status → Answers command files A B before after status
-answers command files A B before after (Answered a) status asked written = was_said command files A B before after (answer_output a) status asked (is_outcome a) written
+answers :
+    (command : Command) (files : Option Files) (A B : Type 0) (before after : Option (List ℕ)) (reply : Reply)
+    (status : ℕ)
+    → Comes command files A reply → Written (reply_output reply) B before after status
+    → Answers command files A B before after status
+answers command files A B before after (Answered a) status asked written =
+    was_said command files A B before after (answer_output a) status asked (is_outcome a) written
 answers command files A B before after (Refused NoRow) status gives written = absurd gives
-answers command files A B before after (Refused (Unread role)) status unread written = was_unread command files A B before after role status unread written
-answers command files A B before after (Refused NoMemory) status gives written = had_no_memory command files A B before after status written
+answers command files A B before after (Refused (Unread role)) status unread written =
+    was_unread command files A B before after role status unread written
+answers command files A B before after (Refused NoMemory) status gives written =
+    had_no_memory command files A B before after status written
 
 -- What words came to was printed.
-pub does : (asked : Found) (files : Option Files) (A B : Type 0) (before after : Option (List ℕ)) (reply : Reply) (status : ℕ)
-    → ComesTo asked files A reply → Written (reply_output reply) B before after status → Does asked files A B before after status
-does none files A B before after reply status no_row written = subst (λ r. Written (reply_output r) B before after status) no_row written
-does (found command) files A B before after reply status comes written = answers command files A B before after reply status comes written
+pub does :
+    (asked : Found) (files : Option Files) (A B : Type 0) (before after : Option (List ℕ)) (reply : Reply) (status : ℕ)
+    → ComesTo asked files A reply → Written (reply_output reply) B before after status
+    → Does asked files A B before after status
+does none files A B before after reply status no_row written =
+    subst (λ r. Written (reply_output r) B before after status) no_row written
+does (found command) files A B before after reply status comes written =
+    answers command files A B before after reply status comes written

@@ -7,12 +7,14 @@ pub use Rattle.fb_text.specs.Unread.{unread}
 pub use Rattle.setup_text.specs.Reading.{setup_at}
 pub use Rattle.fb_cli.specs.Output.{Output, Files, Role, Refusal, Setup, is_accepted, limit_of, output, refusal_output, fault_output, report_output, within, on_read, with_file, if_accepted, with_accepted}
 
--- A file that a command opens: its role, which sets its limit, and what has to hold of the files that were read before it.
+-- A file that a command opens: its role, which sets its limit, and what has to hold of the files
+-- that were read before it.
 pub record File : Type 1 where
   pub role : Role
   pub after : Files → Type 0
 
--- A command: the files that it opens, in their order; what it may answer on the bytes of the files; the status that it ends with where nothing fails; and what holds of what it wrote with status 0.
+-- A command: the files that it opens, in their order; what it may answer on the bytes of the files;
+-- the status that it ends with where nothing fails; and what holds of what it wrote with status 0.
 pub record Command : Type 1 where
   pub opens : List File
   pub may : Files → Output → Type 0
@@ -29,14 +31,21 @@ AreSetup setup bytes = (length bytes ≤ limit_of Role.Setup) × (setup_at (unre
 
 -- A file that is opened where the file of this name is a setup of which this holds.
 abbrev pub file_on : Role → (setup : List ℕ) → (Setup → Type 0) → File
-file_on role setup Fits = record { role = role; after = λ bytes_of. (s : Setup) × AreSetup s (bytes_of setup) × Fits s }
+file_on role setup Fits =
+    record { role = role; after = λ bytes_of. (s : Setup) × AreSetup s (bytes_of setup) × Fits s }
 
 -- A command that has one output on its files, and promises no more than that.
 abbrev pub exactly : List File → (Files → Output) → Command
 exactly opens wanted =
-    record { opens = opens; may = λ bytes_of o. o ≡ wanted bytes_of; status = λ bytes_of. (wanted bytes_of).status; promises = λ bytes_of text. Unit {0} }
+    record {
+      opens = opens;
+      may = λ bytes_of o. o ≡ wanted bytes_of;
+      status = λ bytes_of. (wanted bytes_of).status;
+      promises = λ bytes_of text. Unit {0};
+    }
 
--- An answer on these files: the command may answer it, it has the command's status, and with status 0 it is as promised.
+-- An answer on these files: the command may answer it, it has the command's status, and with status
+-- 0 it is as promised.
 pub record IsAnswer (command : Command) (bytes_of : Files) (o : Output) : Type 0 where
   pub allowed : command.may bytes_of o
   pub settled : o.status ≡ command.status bytes_of
@@ -51,47 +60,69 @@ known (file ∷ more) files = files
 abbrev pub Asked : Command → Option Files → Output → Type 0
 Asked command files o = IfSome (known command.opens files) (λ bytes_of. IsAnswer command bytes_of o)
 
--- The file in this role was not read: it is one of these, what has to hold before it is opened holds, as far as the files are known, and the shelf failed.
+-- The file in this role was not read: it is one of these, what has to hold before it is opened
+-- holds, as far as the files are known, and the shelf failed.
 abbrev pub IsUnread : List File → Option Files → Type 0 → Role → Type 0
 IsUnread [] files shelf_rose role = ⊥
-IsUnread (file ∷ more) files shelf_rose role = ((role ≡ file.role) × IfSome files file.after × shelf_rose) ⊎ IsUnread more files shelf_rose role
+IsUnread (file ∷ more) files shelf_rose role =
+    ((role ≡ file.role) × IfSome files file.after × shelf_rose)
+    ⊎ IsUnread more files shelf_rose role
 
 -- An answer of the command has this status, and its text was taken.
 abbrev pub Taken : Command → Option Files → Option (List ℕ) → Option (List ℕ) → ℕ → Type 0
-Taken command files before after status = (o : Output) × Asked command files o × (o.status ≡ status) × Appends before after o.text
+Taken command files before after status =
+    (o : Output) × Asked command files o × (o.status ≡ status) × Appends before after o.text
 
--- A text that a command may print: that of an answer, of a file that was not read, or of want of memory.
+-- A text that a command may print: that of an answer, of a file that was not read, or of want of
+-- memory.
 abbrev pub Due : Command → Option Files → Type 0 → List ℕ → Type 0
 Due command files shelf_rose text =
     ((o : Output) × Asked command files o × (text ≡ o.text))
-    ⊎ (((role : Role) × IsUnread command.opens files shelf_rose role × (text ≡ (refusal_output (Refusal.Unread role)).text))
+    ⊎ (((role : Role) × IsUnread command.opens files shelf_rose role
+    × (text ≡ (refusal_output (Refusal.Unread role)).text))
     ⊎ (text ≡ (refusal_output Refusal.NoMemory).text))
 
--- How a call that does a command ends: each status comes only where its field says. `before` and `after` are what the sink took.
-pub record Answers (command : Command) (files : Option Files) (shelf_rose sink_rose : Type 0) (before after : Option (List ℕ)) (status : ℕ) : Type 0 where
+-- How a call that does a command ends: each status comes only where its field says. `before` and
+-- `after` are what the sink took.
+pub record Answers (command : Command) (files : Option Files) (shelf_rose sink_rose : Type 0)
+    (before after : Option (List ℕ)) (status : ℕ) : Type 0 where
   pub done : status ≡ 0 → Taken command files before after 0
   pub refused : status ≡ 1 → Taken command files before after 1
   pub matched : status ≡ 2 → ⊥
   pub malformed : status ≡ 3 → Taken command files before after 3
-  pub unread : status ≡ 4 → (role : Role) × IsUnread command.opens files shelf_rose role × Appends before after (refusal_output (Refusal.Unread role)).text
-  pub unwritten : status ≡ 5 → sink_rose × ((text : List ℕ) × Due command files shelf_rose text × AppendsFront before after text)
+  pub unread :
+      status ≡ 4
+      → (role : Role) × IsUnread command.opens files shelf_rose role
+      × Appends before after (refusal_output (Refusal.Unread role)).text
+  pub unwritten :
+      status ≡ 5
+      → sink_rose
+      × ((text : List ℕ) × Due command files shelf_rose text × AppendsFront before after text)
   pub no_memory : status ≡ 6 → Appends before after (refusal_output Refusal.NoMemory).text
   pub too_long : status ≡ 7 → Taken command files before after 7
   pub no_other : status ≤ 7
   -- and it comes there, unless a count rose or memory ran out
-  pub exact : IfSome (known command.opens files) (λ bytes_of. (shelf_rose → ⊥) → (sink_rose → ⊥) → (status ≡ command.status bytes_of) ⊎ (status ≡ 6))
+  pub exact :
+      IfSome (known command.opens files)
+      (λ bytes_of.
+      (shelf_rose → ⊥) → (sink_rose → ⊥) → (status ≡ command.status bytes_of) ⊎ (status ≡ 6))
 
 -- The text was taken whole and the status answered, or a write failed and 5 was answered.
 abbrev pub Written : Output → Type 0 → Option (List ℕ) → Option (List ℕ) → ℕ → Type 0
 Written o sink_rose before after status =
-    ((status ≡ o.status) × Appends before after o.text) ⊎ ((status ≡ 5) × sink_rose × AppendsFront before after o.text)
+    ((status ≡ o.status) × Appends before after o.text)
+    ⊎ ((status ≡ 5) × sink_rose × AppendsFront before after o.text)
 
 -- The command that words ask for, if they match a row.
 pub data Found : Type 1 where
   none : Found
   found : Command → Found
 
--- How a call ends that does what words ask for. Words that match no row are refused, whatever the files, and nothing but a failed write keeps status 2 away.
-abbrev pub Does : Found → Option Files → Type 0 → Type 0 → Option (List ℕ) → Option (List ℕ) → ℕ → Type 0
-Does none files shelf_rose sink_rose before after status = Written (refusal_output Refusal.NoRow) sink_rose before after status
-Does (found command) files shelf_rose sink_rose before after status = Answers command files shelf_rose sink_rose before after status
+-- How a call ends that does what words ask for. Words that match no row are refused, whatever the
+-- files, and nothing but a failed write keeps status 2 away.
+abbrev pub Does :
+    Found → Option Files → Type 0 → Type 0 → Option (List ℕ) → Option (List ℕ) → ℕ → Type 0
+Does none files shelf_rose sink_rose before after status =
+    Written (refusal_output Refusal.NoRow) sink_rose before after status
+Does (found command) files shelf_rose sink_rose before after status =
+    Answers command files shelf_rose sink_rose before after status

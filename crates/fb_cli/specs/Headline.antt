@@ -10,18 +10,28 @@ pub use Rattle.bus_model.specs.Configuration.{opening}
 pub use Rattle.bus_model.specs.Runs.{Run, Complete, after_all}
 pub use Rattle.fb_cli.specs.Replay.{run_text, ending, replay_output}
 
--- What holds of a complete run of a setup with these events: its tables are in the class, each event is a step and has its line, its text is not too long to be replayed, each script is done whole, once and in order, each read gives the latest earlier write, after each event the configuration is sound, which includes that no line has two owners or a shared exclusive copy, and each grant is won by the highest number that competes.
+-- What holds of a complete run of a setup with these events: its tables are in the class, each
+-- event is a step and has its line, its text is not too long to be replayed, each script is done
+-- whole, once and in order, each read gives the latest earlier write, after each event the
+-- configuration is sound, which includes that no line has two owners or a shared exclusive copy,
+-- and each grant is won by the highest number that competes.
 pub record RunHolds (setup : Setup) (events : List Event) : Type 0 where
   pub accepted : AllInClass setup
   pub run : Run setup events (after_all (opening setup) events)
   pub complete : Complete setup (after_all (opening setup) events)
   pub spelled : AllByRecursion InRange events
-  pub short : length (run_text setup events (after_all (opening setup) events)) ≤ limit_of Role.Trace
-  pub scripts : (board : ℕ) → map (λ (e : Entry). e.access) (entries_of board (entries events)) ≡ script_of setup board
+  pub short :
+      length (run_text setup events (after_all (opening setup) events)) ≤ limit_of Role.Trace
+  pub scripts :
+      (board : ℕ)
+      → map (λ (e : Entry). e.access) (entries_of board (entries events)) ≡ script_of setup board
   pub legal : Legal setup.memory (entries events)
-  pub sound : (before rest : List Event) → events ≡ before ++ rest → Sound setup before (after_all (opening setup) before)
+  pub sound :
+      (before rest : List Event) → events ≡ before ++ rest
+      → Sound setup before (after_all (opening setup) before)
   pub grants :
-      (before rest : List Event) (by winner lines rounds : ℕ) → events ≡ before ++ Grant by winner lines rounds ∷ rest
+      (before rest : List Event) (by winner lines rounds : ℕ)
+      → events ≡ before ++ Grant by winner lines rounds ∷ rest
       → CanGrant setup (after_all (opening setup) before) by winner lines rounds
 
 -- The text is that of a run of a setup, of which all that holds.
@@ -30,9 +40,12 @@ pub record IsTextOfRun (setup : Setup) (bytes : List ℕ) : Type 0 where
   pub holds : RunHolds setup events
   pub text : bytes ≡ run_text setup events (after_all (opening setup) events)
 
--- The text is that of a run of the setup of these bytes. `replay` of it on them has status 0, and prints what stands there after the line `end`.
+-- The text is that of a run of the setup of these bytes. `replay` of it on them has status 0, and
+-- prints what stands there after the line `end`.
 pub record IsRunOf (bytes text : List ℕ) : Type 0 where
   pub setup : Setup
   pub read : setup_at (unread bytes) ≡ Ok setup
   pub run : IsTextOfRun setup text
-  pub replayed : replay_output bytes text ≡ record { status = 0; text = ending setup run.events (after_all (opening setup) run.events) }
+  pub replayed :
+      replay_output bytes text
+      ≡ record { status = 0; text = ending setup run.events (after_all (opening setup) run.events) }

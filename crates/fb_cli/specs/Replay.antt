@@ -7,12 +7,17 @@ use Rattle.fb_cli.specs.declared.replaying.TraceFileFault.{TraceFileFault}
 use Rattle.fb_cli.specs.Command.{◌≡◌, ℕ, ◌+◌, ◌<◌, List, [], ◌∷◌, ◌++◌, length, true, Option, IfSome, Result, Ok, Err, codes, decimal, list_all, Role, Output, is_accepted, output, within, with_accepted, Command, exactly, setup_file, file_on}
 pub use Rattle.run_text.specs.RunText.{run_text, ending}
 
--- The output where a trace was replayed: the ending of its run, or why it is not that of a complete run.
+-- The output where a trace was replayed: the ending of its run, or why it is not that of a complete
+-- run.
 abbrev pub on_replayed : Result Machine ReplayFault → Output
-on_replayed (Ok machine) = record { status = 0; text = ending machine.setup machine.journal (configuration machine) }
-on_replayed (Err (ReplayFault.Spelling number)) = output 1 (codes "fault trace line " ++ (decimal number ++ codes " spelling"))
-on_replayed (Err (ReplayFault.NotARun number)) = output 1 (codes "fault trace line " ++ (decimal number ++ codes " not-a-run"))
-on_replayed (Err (ReplayFault.Unfinished board)) = output 1 (codes "fault trace unfinished " ++ decimal board)
+on_replayed (Ok machine) =
+    record { status = 0; text = ending machine.setup machine.journal (configuration machine) }
+on_replayed (Err (ReplayFault.Spelling number)) =
+    output 1 (codes "fault trace line " ++ (decimal number ++ codes " spelling"))
+on_replayed (Err (ReplayFault.NotARun number)) =
+    output 1 (codes "fault trace line " ++ (decimal number ++ codes " not-a-run"))
+on_replayed (Err (ReplayFault.Unfinished board)) =
+    output 1 (codes "fault trace unfinished " ++ decimal board)
 
 -- What a trace of these bytes on a machine prints.
 abbrev pub trace_output : Machine → List ℕ → Output
@@ -32,8 +37,11 @@ replay setup trace =
 abbrev pub FedWith : Replaying → List ℕ → Replaying → Type 0
 FedWith before bytes now = (text : List ℕ) → StandsFor before text → StandsFor now (text ++ bytes)
 
--- Why a trace of these bytes was not replayed: the shelf failed, they are more than the limit, or this holds of their fault.
-abbrev pub TraceCause : Option (List ℕ) → ℕ → Type 0 → (ReplayFault → Type 0) → TraceFileFault → Type 0
+-- Why a trace of these bytes was not replayed: the shelf failed, they are more than the limit, or
+-- this holds of their fault.
+abbrev pub TraceCause :
+    Option (List ℕ) → ℕ → Type 0 → (ReplayFault → Type 0) → TraceFileFault → Type 0
 TraceCause known limit shelf_rose Faulty TraceFileFault.Failed = shelf_rose
-TraceCause known limit shelf_rose Faulty (TraceFileFault.TooLong taken) = (taken ≡ limit + 1) × IfSome known (λ bytes. limit < length bytes)
+TraceCause known limit shelf_rose Faulty (TraceFileFault.TooLong taken) =
+    (taken ≡ limit + 1) × IfSome known (λ bytes. limit < length bytes)
 TraceCause known limit shelf_rose Faulty (TraceFileFault.Trace fault) = Faulty fault

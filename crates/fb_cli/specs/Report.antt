@@ -26,18 +26,23 @@ alternative_of table (Cell.Answer state event) number =
 -- The line of a fault: the cell, and the number and text of an alternative that is not permitted.
 abbrev pub fault_bytes : Table → CellFault → List ℕ
 fault_bytes table (CellFault.NotPermitted cell number) =
-    line_bytes (codes "not-permitted" ∷ (cell_name cell ++ decimal number ∷ alternative_of table cell number))
+    line_bytes (codes "not-permitted"
+    ∷ (cell_name cell ++ decimal number ∷ alternative_of table cell number))
 fault_bytes table (CellFault.Missing cell) = line_bytes (codes "missing" ∷ cell_name cell)
 
 -- The first line of the report on a table with these faults.
 abbrev pub verdict_line : List ℕ → List CellFault → Words
 verdict_line name found =
     codes "table" ∷ (name ++ codes ":")
-    ∷ (if is_empty found then codes "accepted" ∷ [] else codes "refused" ∷ decimal (length found) ∷ [])
+    ∷ (if is_empty found
+    then codes "accepted" ∷ []
+    else codes "refused" ∷ decimal (length found) ∷ [])
 
 -- The report on a table: the verdict, and a line for each fault.
 abbrev pub report_on : Table → List ℕ
-report_on table = line_bytes (verdict_line table.name (faults table)) ++ flat_map (fault_bytes table) (faults table)
+report_on table =
+    line_bytes (verdict_line table.name (faults table))
+    ++ flat_map (fault_bytes table) (faults table)
 
 -- The report on tables, one after another.
 abbrev pub report : List Table → List ℕ

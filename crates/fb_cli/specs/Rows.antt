@@ -17,13 +17,15 @@ use Rattle.fb_cli.specs.Tally.{tally}
 abbrev pub seed_of : List ℕ → Option ℕ
 seed_of word = result_ok (number_within 18446744073709551615 (number_of word))
 
--- What the words name after a first word: a file, two files, a number, or a file and, after `seed`, a number.
+-- What the words name after a first word: a file, two files, a number, or a file and, after `seed`,
+-- a number.
 abbrev pub file_after : List ℕ → List (List ℕ) → Option (List ℕ)
 file_after name (word ∷ file ∷ []) = if bytes_eq word name then Some file else None
 file_after name words = None
 
 abbrev pub files_after : List ℕ → List (List ℕ) → Option (List ℕ × List ℕ)
-files_after name (word ∷ file ∷ other ∷ []) = if bytes_eq word name then Some (file, other) else None
+files_after name (word ∷ file ∷ other ∷ []) =
+    if bytes_eq word name then Some (file, other) else None
 files_after name words = None
 
 abbrev pub seed_after : List ℕ → List (List ℕ) → Option ℕ
@@ -32,7 +34,11 @@ seed_after name words = None
 
 abbrev pub file_and_seed_after : List ℕ → List (List ℕ) → Option (List ℕ × ℕ)
 file_and_seed_after name (word ∷ file ∷ seed ∷ number ∷ []) =
-    if bytes_eq word name then (if bytes_eq seed (codes "seed") then option_map (λ (n : ℕ). (file, n)) (seed_of number) else None) else None
+    if bytes_eq word name
+    then (if bytes_eq seed (codes "seed")
+    then option_map (λ (n : ℕ). (file, n)) (seed_of number)
+    else None)
+    else None
 file_and_seed_after name words = None
 
 -- The command of what a row read, and else what the rows after it find.

@@ -18,15 +18,22 @@ turns_of seed setup = seeded_turns seed (length setup.boards) (access_count setu
 
 -- A run of the setup of a file is printed, which promises all that holds of a run.
 abbrev pub running : (setup : List ℕ) → List File → (Files → Output) → Command
-running setup files wanted = record (exactly (setup_file ∷ files) wanted) { promises = λ bytes_of text. IsRunOf (bytes_of setup) text }
+running setup files wanted =
+    record (exactly (setup_file ∷ files) wanted) {
+      promises =
+          λ bytes_of text. IsRunOf (bytes_of setup) text;
+    }
 
 -- The command on files of these names. The schedule is opened where the setup is one.
 abbrev pub run : (setup schedule : List ℕ) → Command
 run setup schedule =
     running setup (file_on Role.Schedule setup (λ s. Unit {0}) ∷ []) (λ bytes_of.
     with_file Role.Setup setup_at (bytes_of setup) (λ s.
-    with_file Role.Schedule (schedule_at (length s.boards)) (bytes_of schedule) (λ turns. if_accepted s (played_output s turns))))
+    with_file Role.Schedule (schedule_at (length s.boards)) (bytes_of schedule)
+    (λ turns. if_accepted s (played_output s turns))))
 
 -- The command on a file and a number.
 abbrev pub run_seeded : (setup : List ℕ) → (seed : ℕ) → Command
-run_seeded setup seed = running setup [] (λ bytes_of. with_accepted (bytes_of setup) (λ s. played_output s (turns_of seed s)))
+run_seeded setup seed =
+    running setup []
+    (λ bytes_of. with_accepted (bytes_of setup) (λ s. played_output s (turns_of seed s)))

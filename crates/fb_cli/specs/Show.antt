@@ -4,4 +4,8 @@ use Rattle.fb_cli.specs.Command.{ℕ, List, [], ◌∷◌, setup_at, Role, with_
 
 -- The command on a file of this name.
 abbrev pub show : (setup : List ℕ) → Command
-show setup = exactly (setup_file ∷ []) (λ bytes_of. with_file Role.Setup setup_at (bytes_of setup) (λ s. record { status = 0; text = written_setup s }))
+show setup =
+    exactly (setup_file ∷ [])
+    (λ bytes_of.
+    with_file Role.Setup setup_at (bytes_of setup)
+    (λ s. record { status = 0; text = written_setup s }))

@@ -37,7 +37,8 @@ fn is_book(bytes: &[u8]) -> bool
 /// The report on a text of tables.
 fn book_report(alloc: Global, bytes: &[u8]) -> Reply
     requires { length bytes.now < 2 ^ 31 }
-    ensures { Gives (λ o. o ≡ on_read Role.Setup report_output (book_at (unread bytes.now))) (λ role. ⊥) result }
+    ensures { Gives (λ o. o ≡ on_read Role.Setup report_output (book_at (unread bytes.now)))
+        (λ role. ⊥) result }
 {
     match read_book(alloc, bytes) {
         Ok(tables) => report_on(alloc, &tables),
@@ -48,7 +49,9 @@ fn book_report(alloc: Global, bytes: &[u8]) -> Reply
 /// The report on the tables of a setup.
 fn setup_report(alloc: Global, bytes: &[u8]) -> Reply
     requires { length bytes.now < 2 ^ 31 }
-    ensures { Gives (λ o. o ≡ on_read Role.Setup (λ s. report_output s.tables) (setup_at (unread bytes.now))) (λ role. ⊥) result }
+    ensures { Gives
+        (λ o. o ≡ on_read Role.Setup (λ s. report_output s.tables) (setup_at (unread bytes.now)))
+        (λ role. ⊥) result }
 {
     match read_setup(alloc, bytes) {
         Ok(setup) => report_on(alloc, setup.tables()),
@@ -69,7 +72,8 @@ fn verdicts(alloc: Global, bytes: &[u8]) -> Reply
 
 /// Does `check`.
 pub fn check<F: Shelf>(alloc: Global, name: &str, shelf: &mut F) -> Reply
-    ensures { Comes (check name.now) (F.file shelf.old) (Rose (F.faults shelf.old) (F.faults shelf.new)) result }
+    ensures { Comes (check name.now) (F.file shelf.old)
+        (Rose (F.faults shelf.old) (F.faults shelf.new)) result }
 {
     match open(alloc, Role::Setup, name, shelf) {
         Ok(bytes) => verdicts(alloc, &bytes),

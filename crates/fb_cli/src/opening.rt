@@ -36,9 +36,11 @@ pub fn open<F: Shelf>(
     name: &str,
     shelf: &mut F,
 ) -> Result<Vec<u8>, Reply>
-    ensures bytes { IfOk result (λ bytes. IfSome (F.file shelf.old) (λ file. file name.now ≡ bytes.items)) }
+    ensures bytes { IfOk result
+        (λ bytes. IfSome (F.file shelf.old) (λ file. file name.now ≡ bytes.items)) }
     ensures within { IfOk result (λ bytes. length bytes.items ≤ limit_of role) }
-    ensures stops { IfErr result (StopsAt role (F.file shelf.old) name.now (Rose (F.faults shelf.old) (F.faults shelf.new)) (within role)) }
+    ensures stops { IfErr result (StopsAt role (F.file shelf.old) name.now
+        (Rose (F.faults shelf.old) (F.faults shelf.new)) (within role)) }
     ensures refused { IfErr result (IfAnswered (λ o. 0 < o.status)) }
     ensures later { F.faults shelf.old ≤ F.faults shelf.new }
     ensures file { F.file shelf.new ≡ F.file shelf.old }
@@ -64,8 +66,10 @@ pub fn refuse(alloc: Global, role: Role, fault: SetupFault) -> Reply
 
 /// Opens a setup.
 pub fn open_setup<F: Shelf>(alloc: Global, name: &str, shelf: &mut F) -> Result<Setup, Reply>
-    ensures setup { IfOk result (λ setup. IfSome (F.file shelf.old) (λ file. AreSetup setup (file name.now))) }
-    ensures stops { IfErr result (StopsAt Role.Setup (F.file shelf.old) name.now (Rose (F.faults shelf.old) (F.faults shelf.new)) (with_file Role.Setup setup_at)) }
+    ensures setup { IfOk result
+        (λ setup. IfSome (F.file shelf.old) (λ file. AreSetup setup (file name.now))) }
+    ensures stops { IfErr result (StopsAt Role.Setup (F.file shelf.old) name.now
+        (Rose (F.faults shelf.old) (F.faults shelf.new)) (with_file Role.Setup setup_at)) }
     ensures refused { IfErr result (IfAnswered (λ o. 0 < o.status)) }
     ensures later { F.faults shelf.old ≤ F.faults shelf.new }
     ensures file { F.file shelf.new ≡ F.file shelf.old }
@@ -79,9 +83,11 @@ pub fn open_setup<F: Shelf>(alloc: Global, name: &str, shelf: &mut F) -> Result<
 
 /// Opens a setup whose tables are in the class.
 pub fn open_accepted<F: Shelf>(alloc: Global, name: &str, shelf: &mut F) -> Result<Setup, Reply>
-    ensures setup { IfOk result (λ setup. IfSome (F.file shelf.old) (λ file. AreSetup setup (file name.now))) }
+    ensures setup { IfOk result
+        (λ setup. IfSome (F.file shelf.old) (λ file. AreSetup setup (file name.now))) }
     ensures accepted { IfOk result (λ setup. list_all is_accepted setup.tables ≡ true) }
-    ensures stops { IfErr result (StopsAt Role.Setup (F.file shelf.old) name.now (Rose (F.faults shelf.old) (F.faults shelf.new)) with_accepted) }
+    ensures stops { IfErr result (StopsAt Role.Setup (F.file shelf.old) name.now
+        (Rose (F.faults shelf.old) (F.faults shelf.new)) with_accepted) }
     ensures refused { IfErr result (IfAnswered (λ o. 0 < o.status)) }
     ensures later { F.faults shelf.old ≤ F.faults shelf.new }
     ensures file { F.file shelf.new ≡ F.file shelf.old }
@@ -102,10 +108,16 @@ pub fn open_schedule<F: Shelf>(
 ) -> Result<Vec<u8>, Reply>
     requires low { 1 ≤ boards }
     requires high { boards ≤ 16 }
-    ensures short { IfOk result (λ turns. IfSome (F.file shelf.old) (λ file. length (file name.now) ≤ limit_of Role.Schedule)) }
-    ensures turns { IfOk result (λ turns. IfSome (F.file shelf.old) (λ file. schedule_at boards (unread (file name.now)) ≡ Ok turns.items)) }
-    ensures places { IfOk result (λ turns. AllByRecursion (λ p. (1 ≤ p) × (p ≤ boards)) turns.items) }
-    ensures stops { IfErr result (StopsAt Role.Schedule (F.file shelf.old) name.now (Rose (F.faults shelf.old) (F.faults shelf.new)) (with_file Role.Schedule (schedule_at boards))) }
+    ensures short { IfOk result (λ turns.
+        IfSome (F.file shelf.old) (λ file. length (file name.now) ≤ limit_of Role.Schedule)) }
+    ensures turns { IfOk result (λ turns.
+        IfSome (F.file shelf.old)
+        (λ file. schedule_at boards (unread (file name.now)) ≡ Ok turns.items)) }
+    ensures places { IfOk result
+        (λ turns. AllByRecursion (λ p. (1 ≤ p) × (p ≤ boards)) turns.items) }
+    ensures stops { IfErr result (StopsAt Role.Schedule (F.file shelf.old) name.now
+        (Rose (F.faults shelf.old) (F.faults shelf.new))
+        (with_file Role.Schedule (schedule_at boards))) }
     ensures refused { IfErr result (IfAnswered (λ o. 0 < o.status)) }
     ensures later { F.faults shelf.old ≤ F.faults shelf.new }
     ensures file { F.file shelf.new ≡ F.file shelf.old }

@@ -51,7 +51,8 @@ pub fn race_file<F: Shelf, G: Gate + Sync, R: Threads + Wait + Sync>(
     shelf: &mut F,
     gate: &G,
 ) -> Reply
-    ensures { Comes (race name.now) (F.file shelf.old) (Rose (F.faults shelf.old) (F.faults shelf.new)) result }
+    ensures { Comes (race name.now) (F.file shelf.old)
+        (Rose (F.faults shelf.old) (F.faults shelf.new)) result }
 {
     match open_accepted(alloc, name, shelf) {
         Ok(setup) => Reply::of(raced(rt, alloc, setup, gate)),

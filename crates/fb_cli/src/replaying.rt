@@ -44,8 +44,10 @@ const PIECE: usize = 4096;
 fn feed_all<F: Shelf>(replay: &mut Replay, shelf: &mut F, limit: u64) -> Result<(), TraceFileFault>
     requires limit { limit < 2 ^ 63 }
     ensures setup { replay.new.setup ≡ replay.old.setup }
-    ensures fed { OnOk result (IfSome (F.rest shelf.old) (λ bytes. (length bytes ≤ limit) × FedWith replay.old bytes replay.new)) }
-    ensures fault { IfErr result (TraceCause (F.rest shelf.old) limit (Rose (F.faults shelf.old) (F.faults shelf.new)) (λ fault. ⊥)) }
+    ensures fed { OnOk result (IfSome (F.rest shelf.old)
+        (λ bytes. (length bytes ≤ limit) × FedWith replay.old bytes replay.new)) }
+    ensures fault { IfErr result (TraceCause (F.rest shelf.old) limit
+        (Rose (F.faults shelf.old) (F.faults shelf.new)) (λ fault. ⊥)) }
     ensures later { F.faults shelf.old ≤ F.faults shelf.new }
     ensures file { F.file shelf.new ≡ F.file shelf.old }
 {
@@ -75,8 +77,10 @@ pub fn replay_file<F: Shelf>(
 ) -> Result<Machine, TraceFileFault>
     requires opening { machine.journal ≡ [] }
     requires limit { limit < 2 ^ 63 }
-    ensures short { IfOk result (λ m. IfSome (F.file shelf.old) (λ file. length (file name.now) ≤ limit)) }
-    ensures replayed { IfOk result (λ m. IfSome (F.file shelf.old) (λ file. replayed machine (file name.now) ≡ Ok m)) }
+    ensures short { IfOk result
+        (λ m. IfSome (F.file shelf.old) (λ file. length (file name.now) ≤ limit)) }
+    ensures replayed { IfOk result
+        (λ m. IfSome (F.file shelf.old) (λ file. replayed machine (file name.now) ≡ Ok m)) }
     ensures fault { IfErr result (TraceCause (option_map (λ file. file name.now) (F.file shelf.old)) limit (Rose (F.faults shelf.old) (F.faults shelf.new))
         (λ fault. IfSome (F.file shelf.old) (λ file. (length (file name.now) ≤ limit) × (replayed machine (file name.now) ≡ Err fault)))) }
     ensures later { F.faults shelf.old ≤ F.faults shelf.new }
@@ -127,7 +131,9 @@ fn trace_answer(alloc: Global, fault: ReplayFault) -> Result<Answer, NoMemory>
 /// The ending of the run of a file's trace on a machine at its opening.
 fn traced<F: Shelf>(alloc: Global, machine: Machine, name: &str, shelf: &mut F) -> Reply
     requires opening { machine.journal ≡ [] }
-    ensures { Gives (λ o. IfSome (F.file shelf.old) (λ file. o ≡ trace_output machine (file name.now))) (λ role. (role ≡ Role.Trace) × (Rose (F.faults shelf.old) (F.faults shelf.new))) result }
+    ensures { Gives
+        (λ o. IfSome (F.file shelf.old) (λ file. o ≡ trace_output machine (file name.now)))
+        (λ role. (role ≡ Role.Trace) × (Rose (F.faults shelf.old) (F.faults shelf.new))) result }
 {
     let Ok(room) = Room::new(alloc) else {
         return Reply::Refused(Refusal::NoMemory);
@@ -145,7 +151,9 @@ fn traced<F: Shelf>(alloc: Global, machine: Machine, name: &str, shelf: &mut F) 
 /// The ending of the run of a file's trace on a setup whose tables are accepted.
 fn ended<F: Shelf>(alloc: Global, setup: Setup, name: &str, shelf: &mut F) -> Reply
     requires { list_all is_accepted setup.tables ≡ true }
-    ensures { Gives (λ o. IfSome (F.file shelf.old) (λ file. o ≡ trace_output (opened setup) (file name.now))) (λ role. (role ≡ Role.Trace) × (Rose (F.faults shelf.old) (F.faults shelf.new))) result }
+    ensures { Gives
+        (λ o. IfSome (F.file shelf.old) (λ file. o ≡ trace_output (opened setup) (file name.now)))
+        (λ role. (role ≡ Role.Trace) × (Rose (F.faults shelf.old) (F.faults shelf.new))) result }
 {
     match start(alloc, setup) {
         Ok(machine) => traced(alloc, machine, name, shelf),
@@ -155,7 +163,8 @@ fn ended<F: Shelf>(alloc: Global, setup: Setup, name: &str, shelf: &mut F) -> Re
 
 /// Does `replay`.
 pub fn replay<F: Shelf>(alloc: Global, name: &str, trace: &str, shelf: &mut F) -> Reply
-    ensures { Comes (replay name.now trace.now) (F.file shelf.old) (Rose (F.faults shelf.old) (F.faults shelf.new)) result }
+    ensures { Comes (replay name.now trace.now) (F.file shelf.old)
+        (Rose (F.faults shelf.old) (F.faults shelf.new)) result }
 {
     match open_accepted(alloc, name, shelf) {
         Ok(setup) => ended(alloc, setup, trace, shelf),

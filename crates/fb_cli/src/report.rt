@@ -43,7 +43,8 @@ fn write_cell(cell: Cell, text: &mut Text)
 /// The alternative of this number, counted from 1, of a cell.
 fn write_alternative(table: &Table, cell: Cell, number: u8, text: &mut Text)
     requires { 11 ≤ text.old.spare }
-    ensures bytes { text.new.bytes ≡ text.old.bytes ++ after_words (alternative_of table.now cell number) }
+    ensures bytes { text.new.bytes
+        ≡ text.old.bytes ++ after_words (alternative_of table.now cell number) }
     ensures spare { text.old.spare ≤ text.new.spare + 11 }
 {
     let place = usize::from(number).saturating_sub(1);
@@ -64,7 +65,8 @@ fn write_alternative(table: &Table, cell: Cell, number: u8, text: &mut Text)
 /// The line of an alternative that is not permitted.
 fn write_forbidden(table: &Table, cell: Cell, number_in_cell: u8, text: &mut Text)
     requires { 80 ≤ text.old.spare }
-    ensures { text.new.bytes ≡ text.old.bytes ++ fault_bytes table.now (CellFault.NotPermitted cell number_in_cell) }
+    ensures { text.new.bytes
+        ≡ text.old.bytes ++ fault_bytes table.now (CellFault.NotPermitted cell number_in_cell) }
 {
     text.push(b"not-permitted");
     write_cell(cell, text);
@@ -86,7 +88,8 @@ fn write_missing(table: &Table, cell: Cell, text: &mut Text)
 
 /// The lines of faults.
 fn write_faults(table: &Table, faults: &[CellFault], text: &mut Text) -> Result<(), NoMemory>
-    ensures { OnOk result (text.new.bytes ≡ text.old.bytes ++ flat_map (fault_bytes table.now) faults.now) }
+    ensures { OnOk result
+        (text.new.bytes ≡ text.old.bytes ++ flat_map (fault_bytes table.now) faults.now) }
 {
     for fault in faults {
         text.reserve(LINE)?;
@@ -102,7 +105,8 @@ fn write_faults(table: &Table, faults: &[CellFault], text: &mut Text) -> Result<
 
 /// The first line of the report on a table with these faults.
 fn write_verdict(table: &Table, faults: &[CellFault], text: &mut Text) -> Result<(), NoMemory>
-    ensures { OnOk result (text.new.bytes ≡ text.old.bytes ++ line_bytes (verdict_line table.now.name faults.now)) }
+    ensures { OnOk result
+        (text.new.bytes ≡ text.old.bytes ++ line_bytes (verdict_line table.now.name faults.now)) }
 {
     text.reserve(LINE)?;
     let name = table.name();
@@ -121,7 +125,8 @@ fn write_verdict(table: &Table, faults: &[CellFault], text: &mut Text) -> Result
 
 /// Appends the report on a table. Whether it is in the class.
 fn write_report(alloc: Global, table: &Table, text: &mut Text) -> Result<bool, NoMemory>
-    ensures text { IfOk result (λ accepted. text.new.bytes ≡ text.old.bytes ++ report_on table.now) }
+    ensures text { IfOk result
+        (λ accepted. text.new.bytes ≡ text.old.bytes ++ report_on table.now) }
     ensures accepted { IfOk result (λ accepted. accepted ≡ is_accepted table.now) }
 {
     let verdict = check(alloc, table)?;
@@ -155,7 +160,8 @@ fn report_of(alloc: Global, tables: &[Table]) -> Result<Report, NoMemory>
 
 /// The answer of a report.
 fn verdict(report: Report) -> Answer
-    ensures { answer_output result ≡ record { status = if report.accepted then 0 else 1; text = report.text.bytes } }
+    ensures { answer_output result
+        ≡ record { status = if report.accepted then 0 else 1; text = report.text.bytes } }
 {
     if report.accepted {
         Answer::Said {
@@ -183,7 +189,8 @@ pub fn report_on(alloc: Global, tables: &[Table]) -> Reply
 /// Goes on where each table of a setup is in the class, and else stops with the report.
 pub fn judge(alloc: Global, setup: &Setup) -> Result<(), Reply>
     ensures accepted { OnOk result (list_all is_accepted setup.now.tables ≡ true) }
-    ensures stops { IfErr result (Gives (λ o. (wanted : Output) → o ≡ if_accepted setup.now wanted) (λ role. ⊥)) }
+    ensures stops { IfErr result
+        (Gives (λ o. (wanted : Output) → o ≡ if_accepted setup.now wanted) (λ role. ⊥)) }
     ensures refused { IfErr result (IfAnswered (λ o. 0 < o.status)) }
 {
     match report_of(alloc, setup.tables()) {

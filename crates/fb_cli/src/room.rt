@@ -6,7 +6,8 @@ use fb_text::Text;
 use no_memory::NoMemory;
 use std::alloc::Global;
 
-/// Room for any one line of a run. It is made before anything is printed, so that printing takes no memory.
+/// Room for any one line of a run. It is made before anything is printed, so that printing takes no
+/// memory.
 #[derive(Drop)]
 pub struct Room {
     pub line: Text,

@@ -17,7 +17,8 @@ fn seed_of(word: &str) -> Option<u64>
 
 /// The name of a file.
 pub fn file_after<'a>(name: &str, words: &'a [String]) -> Option<&'a str>
-    ensures { option_map (λ file. file.now) result ≡ file_after name.now (map string_bytes words.now) }
+    ensures { option_map (λ file. file.now) result
+        ≡ file_after name.now (map string_bytes words.now) }
 {
     match words {
         [word, file] if word.as_str() == name => Some(file.as_str()),
@@ -27,7 +28,8 @@ pub fn file_after<'a>(name: &str, words: &'a [String]) -> Option<&'a str>
 
 /// The names of two files.
 pub fn files_after<'a>(name: &str, words: &'a [String]) -> Option<(&'a str, &'a str)>
-    ensures { option_map {U = List ℕ × List ℕ} (λ files. (files.0.now, files.1.now)) result ≡ files_after name.now (map string_bytes words.now) }
+    ensures { option_map {U = List ℕ × List ℕ} (λ files. (files.0.now, files.1.now)) result
+        ≡ files_after name.now (map string_bytes words.now) }
 {
     match words {
         [word, file, other] if word.as_str() == name => Some((file.as_str(), other.as_str())),
@@ -47,7 +49,8 @@ pub fn seed_after(name: &str, words: &[String]) -> Option<u64>
 
 /// A file, if the word spells a number.
 fn with_seed<'a>(file: &'a str, number: &str) -> Option<(&'a str, u64)>
-    ensures { option_map {U = List ℕ × ℕ} (λ named. (named.0.now, named.1)) result ≡ option_map {U = List ℕ × ℕ} (λ n. (file.now, n)) (seed_of number.now) }
+    ensures { option_map {U = List ℕ × ℕ} (λ named. (named.0.now, named.1)) result
+        ≡ option_map {U = List ℕ × ℕ} (λ n. (file.now, n)) (seed_of number.now) }
 {
     match seed_of(number) {
         Some(seed) => Some((file, seed)),
@@ -57,7 +60,8 @@ fn with_seed<'a>(file: &'a str, number: &str) -> Option<(&'a str, u64)>
 
 /// The name of a file and, after the word `seed`, a number.
 pub fn file_and_seed_after<'a>(name: &str, words: &'a [String]) -> Option<(&'a str, u64)>
-    ensures { option_map {U = List ℕ × ℕ} (λ named. (named.0.now, named.1)) result ≡ file_and_seed_after name.now (map string_bytes words.now) }
+    ensures { option_map {U = List ℕ × ℕ} (λ named. (named.0.now, named.1)) result
+        ≡ file_and_seed_after name.now (map string_bytes words.now) }
 {
     match words {
         [word, file, seed, number] if word.as_str() == name && seed.as_str() == "seed" => {

@@ -41,7 +41,8 @@ fn play_turns(alloc: Global, setup: Setup, turns: &[u8]) -> Result<Answer, NoMem
 /// The run of a setup by the seeded schedule of a number.
 fn play_seed(alloc: Global, setup: Setup, seed: u64) -> Result<Answer, NoMemory>
     requires { list_all is_accepted setup.tables ≡ true }
-    ensures output { IfOk result (λ answer. answer_output answer ≡ played_output setup (turns_of seed setup)) }
+    ensures output { IfOk result
+        (λ answer. answer_output answer ≡ played_output setup (turns_of seed setup)) }
     ensures run { IfOk result (λ answer. IsTextOfRun setup (answer_output answer).text) }
 {
     let accesses = setup.accesses();
@@ -54,7 +55,8 @@ fn play_seed(alloc: Global, setup: Setup, seed: u64) -> Result<Answer, NoMemory>
 /// The run of a setup by turns, or the report where a table is not accepted.
 fn judged(alloc: Global, setup: Setup, turns: &[u8]) -> Reply
     requires { AllByRecursion (λ p. (1 ≤ p) × (p ≤ length setup.boards)) turns.now }
-    ensures gives { Gives (λ o. o ≡ if_accepted setup (played_output setup turns.now)) (λ role. ⊥) result }
+    ensures gives { Gives (λ o. o ≡ if_accepted setup (played_output setup turns.now)) (λ role. ⊥)
+        result }
     ensures run { IfAnswered (λ o. o.status ≡ 0 → IsTextOfRun setup o.text) result }
 {
     match judge(alloc, &setup) {
@@ -65,7 +67,14 @@ fn judged(alloc: Global, setup: Setup, turns: &[u8]) -> Reply
 
 /// The run of a setup by the schedule of a file.
 fn scheduled<F: Shelf>(alloc: Global, setup: Setup, name: &str, shelf: &mut F) -> Reply
-    ensures gives { Gives (λ o. IfSome (F.file shelf.old) (λ file. o ≡ with_file Role.Schedule (schedule_at (length setup.boards)) (file name.now) (λ turns. if_accepted setup (played_output setup turns)))) (λ role. (role ≡ Role.Schedule) × (Rose (F.faults shelf.old) (F.faults shelf.new))) result }
+    ensures gives { Gives (λ o.
+        IfSome (F.file shelf.old)
+        (λ file.
+        o
+        ≡ with_file Role.Schedule (schedule_at (length setup.boards))
+        (file name.now)
+        (λ turns. if_accepted setup (played_output setup turns))))
+        (λ role. (role ≡ Role.Schedule) × (Rose (F.faults shelf.old) (F.faults shelf.new))) result }
     ensures run { IfAnswered (λ o. o.status ≡ 0 → IsTextOfRun setup o.text) result }
 {
     match open_schedule(alloc, name, setup.boards().len() as u8, shelf) {
@@ -76,7 +85,8 @@ fn scheduled<F: Shelf>(alloc: Global, setup: Setup, name: &str, shelf: &mut F) -
 
 /// Does `run`.
 pub fn run<F: Shelf>(alloc: Global, name: &str, schedule: &str, shelf: &mut F) -> Reply
-    ensures { Comes (run name.now schedule.now) (F.file shelf.old) (Rose (F.faults shelf.old) (F.faults shelf.new)) result }
+    ensures { Comes (run name.now schedule.now) (F.file shelf.old)
+        (Rose (F.faults shelf.old) (F.faults shelf.new)) result }
 {
     match open_setup(alloc, name, shelf) {
         Ok(setup) => scheduled(alloc, setup, schedule, shelf),
@@ -86,7 +96,8 @@ pub fn run<F: Shelf>(alloc: Global, name: &str, schedule: &str, shelf: &mut F) -
 
 /// Does `run` with a number in place of a schedule.
 pub fn run_seeded<F: Shelf>(alloc: Global, name: &str, seed: u64, shelf: &mut F) -> Reply
-    ensures { Comes (run_seeded name.now seed) (F.file shelf.old) (Rose (F.faults shelf.old) (F.faults shelf.new)) result }
+    ensures { Comes (run_seeded name.now seed) (F.file shelf.old)
+        (Rose (F.faults shelf.old) (F.faults shelf.new)) result }
 {
     match open_accepted(alloc, name, shelf) {
         Ok(setup) => Reply::of(play_seed(alloc, setup, seed)),

@@ -19,7 +19,8 @@ mod tests;
 
 /// The written spelling of a setup.
 pub fn written(alloc: Global, setup: &Setup) -> Reply
-    ensures { Gives (λ o. o ≡ record { status = 0; text = written_setup setup.now }) (λ role. ⊥) result }
+    ensures { Gives (λ o. o ≡ record { status = 0; text = written_setup setup.now }) (λ role. ⊥)
+        result }
 {
     let mut text = Text::new(alloc);
     match write_setup(setup, &mut text) {
@@ -33,7 +34,8 @@ pub fn written(alloc: Global, setup: &Setup) -> Reply
 
 /// Does `show`.
 pub fn show<F: Shelf>(alloc: Global, name: &str, shelf: &mut F) -> Reply
-    ensures { Comes (show name.now) (F.file shelf.old) (Rose (F.faults shelf.old) (F.faults shelf.new)) result }
+    ensures { Comes (show name.now) (F.file shelf.old)
+        (Rose (F.faults shelf.old) (F.faults shelf.new)) result }
 {
     match open_setup(alloc, name, shelf) {
         Ok(setup) => written(alloc, &setup),

@@ -41,7 +41,8 @@ fn events_are_spelled(events: &[Event])
     }
 }
 
-/// Does nothing: it is called for its contract, that all holds of the run of a finished machine that is to hold of a run.
+/// Does nothing: it is called for its contract, that all holds of the run of a finished machine
+/// that is to hold of a run.
 fn whole_run_holds(machine: &Machine)
     requires { Complete machine.now.setup (configuration machine.now) }
     ensures { RunHolds machine.now.setup machine.now.journal }

@@ -8,4 +8,5 @@ use Rattle.fb_cli.proofs.checking.check.Goals as goal
 pub returns-in-Err : goal.returns-in-Err
 returns-in-Err g c =
     let name = c.args.name.now in
-    stops_comes name [] (within Role.Setup) (λ file. verdicts_output (file name)) (g.F.Shelf.file c.args.shelf.now) _ c.in-Err.reply c.in-Err.ensures.stops
+    stops_comes name [] (within Role.Setup) (λ file. verdicts_output (file name)) (g.F.Shelf.file c.args.shelf.now) _
+    c.in-Err.reply c.in-Err.ensures.stops

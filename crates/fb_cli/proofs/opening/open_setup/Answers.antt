@@ -8,4 +8,5 @@ pub returns-in_err-bytes-clause-stops : goal.returns-in_err-bytes-clause-stops
 returns-in_err-bytes-clause-stops g c =
     let p = err_from_is_err_and c.from_residual.result c.from_residual.ensures.1 in
     rw (p.1, p.2)
-    (reading_stops Role.Setup setup_at (g.F.Shelf.file c.args.shelf.now) c.args.name.now _ c.in_err-bytes.field-0.0 c.in_err-bytes.ensures.stops)
+    (reading_stops Role.Setup setup_at (g.F.Shelf.file c.args.shelf.now) c.args.name.now _ c.in_err-bytes.field-0.0
+    c.in_err-bytes.ensures.stops)

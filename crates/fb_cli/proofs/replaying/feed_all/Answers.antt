@@ -16,6 +16,10 @@ loop-taken-preserved g c =
       file = next.file ∙ i.file;
       setup = c.feed.ensures.setup ∙ i.setup;
       read =
-          more_read _ c.args.replay.now c.loop-taken.replay c.feed.new.self _ _ _ _ _ i.read next.bytes.0 (sym next.bound.1)
-          (λ text stands. subst (λ (p : List ℕ). StandsFor c.feed.new.self (text ++ p)) (take-append-le c.in-Ok.count c.next.new.into (drop c.min-want.result c.loop-taken.piece) next.bound.0) (c.feed.ensures.stands text stands));
+          more_read _ c.args.replay.now c.loop-taken.replay c.feed.new.self _ _ _ _ _ i.read next.bytes.0
+          (sym next.bound.1)
+          (λ text stands.
+          subst (λ (p : List ℕ). StandsFor c.feed.new.self (text ++ p))
+          (take-append-le c.in-Ok.count c.next.new.into (drop c.min-want.result c.loop-taken.piece) next.bound.0)
+          (c.feed.ensures.stands text stands));
     }

@@ -8,7 +8,9 @@ invariant-loop-taken g l = record {
   later : g.F.Shelf.faults l.initial.shelf ≤ g.F.Shelf.faults l.shelf;
   file : g.F.Shelf.file l.shelf ≡ g.F.Shelf.file l.initial.shelf;
   setup : l.replay.setup ≡ l.initial.replay.setup;
-  read : IfSome (g.F.Shelf.rest l.initial.shelf) (λ bytes. HasRead l.initial.replay l.replay l.taken bytes (g.F.Shelf.rest l.shelf));
+  read :
+      IfSome (g.F.Shelf.rest l.initial.shelf)
+      (λ bytes. HasRead l.initial.replay l.replay l.taken bytes (g.F.Shelf.rest l.shelf));
 }
 
 abbrev pub decreases-loop-taken : goal.decreases-loop-taken

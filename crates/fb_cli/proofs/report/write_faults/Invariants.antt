@@ -4,4 +4,5 @@ use Rattle.fb_cli.specs.Report.{fault_bytes}
 use Rattle.fb_cli.proofs.report.write_faults.Given as goal
 
 abbrev pub invariant-loop-fault : goal.invariant-loop-fault
-invariant-loop-fault l = l.text.bytes ≡ l.initial.text.bytes ++ flat_map (fault_bytes l.table) (take l.fault-index l.faults)
+invariant-loop-fault l =
+    l.text.bytes ≡ l.initial.text.bytes ++ flat_map (fault_bytes l.table) (take l.fault-index l.faults)

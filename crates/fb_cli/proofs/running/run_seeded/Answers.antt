@@ -9,4 +9,5 @@ returns-in-Ok g c =
 
 pub returns-in-Err : goal.returns-in-Err
 returns-in-Err g c =
-    stop_comes c.args.name.now [] _ (g.F.Shelf.file c.args.shelf.now) _ c.in-Err.reply (search rules) c.in-Err.ensures.refused
+    stop_comes c.args.name.now [] _ (g.F.Shelf.file c.args.shelf.now) _ c.in-Err.reply (search rules)
+    c.in-Err.ensures.refused

@@ -8,4 +8,5 @@ pub returns : goal.returns
 returns c =
     let known = c.journal.ensures in
     let spelled = subst (AllByRecursion InRange) known.journal c.events_are_spelled.ensures in
-    holds c.args.machine.now.setup c.args.machine.now.journal known.setup known.accepted known.run c.requires spelled c.run_texts_fit.ensures known.legal
+    holds c.args.machine.now.setup c.args.machine.now.journal known.setup known.accepted known.run c.requires spelled
+    c.run_texts_fit.ensures known.legal

@@ -5,5 +5,6 @@ use Rattle.fb_cli.proofs.words.number.Goals as goal
 
 pub returns-clause-spare : goal.returns-clause-spare
 returns-clause-spare c =
-    let short : length (decimal c.args.value) ≤ 20 = length-decimal-le 20 c.args.value (omega arith) (omega arith) (omega arith) in
+    let short : length (decimal c.args.value) ≤ 20 =
+    length-decimal-le 20 c.args.value (omega arith) (omega arith) (omega arith) in
     omega arith
