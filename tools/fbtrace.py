@@ -4,6 +4,7 @@ The words and states after each event are computed here once more, after docs/MO
 of a trace: `read` asks it first, and refuses a trace whose ending is not the one that replay prints, or is not the one
 that is computed here. What is kept does not grow with the trace: replies are hashed, board by board."""
 
+import argparse
 import functools
 import hashlib
 import itertools
@@ -15,6 +16,7 @@ import sys
 
 # How many readings of lines are kept. Most lines of a long trace come again within some thousand.
 KEPT = 8192
+# How many bytes of a trace are read at a time.
 BLOCK = 1 << 15
 # The most lines of memory that a setup has.
 MOST_LINES = 4096
@@ -83,8 +85,16 @@ def outside_tables(lines, tables):
             cells[words[0], words[1]] = " ".join(words[3:]).split(" | ")
 
 
-def read_setup(text):
-    """The setup of a text. The text is one that the program reads; what it would refuse is not looked at again."""
+def empty_memory(lines):
+    if not 1 <= lines <= MOST_LINES:
+        raise ValueError(lines)
+    return [[0] * 4 for _ in range(lines)]
+
+
+def read_setup(path):
+    """The setup of a file. It is one that the program reads; what the program would refuse is not looked at again."""
+    with open(path, encoding="utf-8", errors="replace", newline="") as file:
+        text = file.read()
     memory, tables, boards = None, {}, []
     try:
         for words in outside_tables(free_text(text), tables):
@@ -92,7 +102,7 @@ def read_setup(text):
             if kind in ACCESSES:
                 boards[-1].script.append(" ".join(words))
             elif kind == "memory":
-                memory = [[0] * 4 for _ in range(int(words[1]))]
+                memory = empty_memory(int(words[1]))
             elif kind == "word":
                 memory[int(words[1]) // 4][int(words[1]) % 4] = int(words[2])
             elif kind == "board":
@@ -100,9 +110,9 @@ def read_setup(text):
             elif kind != "end":
                 raise ValueError(kind)
     except (ValueError, IndexError, TypeError):
-        raise Unfit("the setup cannot be read: `futurebus show` says where") from None
+        raise Unfit(f"{path}: the setup cannot be read: `futurebus show` says where") from None
     if memory is None or not boards:
-        raise Unfit("the setup has no memory or no boards: `futurebus show` says more")
+        raise Unfit(f"{path}: the setup has no memory or no boards: `futurebus show` says more")
     return Setup(memory, tables, boards)
 
 
@@ -120,9 +130,9 @@ FIELDS = {
 class Event:
     """An event of a trace. Nothing changes it once it is read, since a line that comes again gives the same one.
 
-    It has the fields of its kind, and `line` and `access`, which may be none; where there is an access, `done` is what the
-    trace says of it. A data line seldom comes again, but what it says before its access does: `move` is the event of that
-    part, with all fields but those of the access."""
+    It has the fields of its kind, and `line` and `access`, which may be none; where there is an access, `done` is what
+    the trace says of it. A data line seldom comes again, but what it says before its access does: `move` is the event
+    of that part, with all fields but those of the access."""
 
     __slots__ = (
         "kind", "board", "line", "before", "after", "access", "address", "value", "winner", "lines", "rounds", "event",
@@ -199,8 +209,8 @@ def written(words, event):
 
 
 class Machine:
-    """The configuration between two events. The words of a line are never changed in place, so a list of them may be kept
-    by others, and stand for a copy and for memory at once."""
+    """The configuration between two events. A list of the words of a line is never changed: a write puts another in its
+    place. So a copy and memory may have the same list, and a tool may keep it."""
 
     def __init__(self, setup):
         self.setup = setup
@@ -356,8 +366,8 @@ class Judge:
 
 
 class Trace:
-    """The events of a trace that replay accepts, one after another. `machine` stands before the event that was given last
-    until the next one is asked for. What an audit printed is of no complete run, and has no judge but the audit itself."""
+    """The events of a trace that replay accepts, one after another. `machine` stands before the event that was given
+    last until the next one is asked for. What an audit printed is no complete run, so replay is not asked about it."""
 
     def __init__(self, setup, path, program=PROGRAM, setup_path=None, is_audit=False):
         self.setup, self.path, self.machine, self.number = setup, path, Machine(setup), 0
@@ -414,9 +424,7 @@ def text_of(line):
 
 def read(setup_path, trace_path, program=PROGRAM):
     """The setup and the trace of two files."""
-    with open(setup_path, encoding="utf-8", errors="replace", newline="") as file:
-        text = file.read()
-    setup = read_setup(text)
+    setup = read_setup(setup_path)
     return setup, Trace(setup, trace_path, program, setup_path)
 
 
@@ -426,13 +434,22 @@ def write(out, lines):
         out.write(block)
 
 
-def numbers(text):
-    """A list of numbers such as 0,2,5, or of ranges such as 0-3,7."""
+def ranges(text):
+    """The ranges of a text such as 0,2,5 or 0-3,7."""
     found = []
     for part in text.split(","):
         low, dash, high = part.partition("-")
-        found += range(int(low), int(high or low) + 1) if dash else [int(low)]
+        found.append(range(int(low), int(high if dash else low) + 1))
+        if not found[-1]:
+            raise argparse.ArgumentTypeError(f"{part} ends before it begins")
     return found
+
+
+def lines_of(asked, setup, option="--lines"):
+    """The lines of memory in these ranges. One that the memory of the setup has not is refused."""
+    if any(part.start < 0 or part.stop > len(setup.memory) for part in asked):
+        raise Unfit(f"{option}: the memory has the lines 0 to {len(setup.memory) - 1}")
+    return list(dict.fromkeys(itertools.chain.from_iterable(asked)))
 
 
 def run_main(name, main):
