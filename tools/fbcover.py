@@ -17,7 +17,8 @@ def reached(table):
     found, new = set(), {"I"}
     while new:
         found |= new
-        new = {state for (of, _), alternatives in table.items() if of in found for state in results(alternatives)} - found
+        cells = [alternatives for (state, _), alternatives in table.items() if state in found]
+        new = {state for alternatives in cells for state in results(alternatives)} - found
     return [state for state in fbtrace.STATES if state in found]
 
 
@@ -52,8 +53,8 @@ class Coverage:
         return trace.number
 
     def rows(self):
-        """For each table that a board uses its name and boards, and for each cell, whether it is needed and its alternatives, each
-        with its counts by board."""
+        """For each table that a board uses, its name, its boards and its cells. With each cell stands whether it is
+        needed, and its alternatives with their counts by board."""
         for name, table in self.setup.tables.items():
             boards = [board.place for board in self.setup.boards if board.table == name]
             if not boards:
@@ -61,7 +62,12 @@ class Coverage:
             cells = list(needed(table))
             wanted = set(cells)
             cells += [cell for cell in table if cell not in wanted]
-            yield name, boards, [(cell, cell in wanted, [(text, [self.counts[board, *cell, text] for board in boards]) for text in dict.fromkeys(table.get(cell, []))]) for cell in cells]
+            counted = [self.taken(boards, cell, table.get(cell, [])) for cell in cells]
+            yield name, boards, [(cell, cell in wanted, counts) for cell, counts in zip(cells, counted)]
+
+    def taken(self, boards, cell, alternatives):
+        """The alternatives of a cell, with their counts by board."""
+        return [(text, [self.counts[board, *cell, text] for board in boards]) for text in dict.fromkeys(alternatives)]
 
     def few(self, least):
         """The needed cells that were entered fewer times than this."""

@@ -1,9 +1,10 @@
 """Reads setups and traces for the tools of this folder, and follows a trace event by event.
 
 The words and states after each event are computed here once more, after docs/MODEL.md. `futurebus replay` is the judge
-of a trace: `read` asks it first, and refuses a trace whose ending is not the one that replay prints, or that is computed
-here. What is kept does not grow with the trace, but for the replies of one board after another, which are hashed."""
+of a trace: `read` asks it first, and refuses a trace whose ending is not the one that replay prints, or is not the one
+that is computed here. What is kept does not grow with the trace: replies are hashed, board by board."""
 
+import argparse
 import functools
 import hashlib
 import itertools
@@ -14,7 +15,11 @@ import subprocess
 import sys
 
 # How many readings of lines are kept. Most lines of a long trace come again within some thousand.
-KEPT = 4096
+KEPT = 8192
+# How many bytes of a trace are read at a time.
+BLOCK = 1 << 15
+# The most lines of memory that a setup has.
+MOST_LINES = 4096
 PROGRAM = pathlib.Path(__file__).resolve().parent.parent / "futurebus"
 
 STATES = ("M", "O", "E", "S", "I")
@@ -80,8 +85,16 @@ def outside_tables(lines, tables):
             cells[words[0], words[1]] = " ".join(words[3:]).split(" | ")
 
 
-def read_setup(text):
-    """The setup of a text. The text is one that the program reads; what it would refuse is not looked at again."""
+def empty_memory(lines):
+    if not 1 <= lines <= MOST_LINES:
+        raise ValueError(lines)
+    return [[0] * 4 for _ in range(lines)]
+
+
+def read_setup(path):
+    """The setup of a file. It is one that the program reads; what the program would refuse is not looked at again."""
+    with open(path, encoding="utf-8", errors="replace", newline="") as file:
+        text = file.read()
     memory, tables, boards = None, {}, []
     try:
         for words in outside_tables(free_text(text), tables):
@@ -89,7 +102,7 @@ def read_setup(text):
             if kind in ACCESSES:
                 boards[-1].script.append(" ".join(words))
             elif kind == "memory":
-                memory = [[0] * 4 for _ in range(int(words[1]))]
+                memory = empty_memory(int(words[1]))
             elif kind == "word":
                 memory[int(words[1]) // 4][int(words[1]) % 4] = int(words[2])
             elif kind == "board":
@@ -97,9 +110,9 @@ def read_setup(text):
             elif kind != "end":
                 raise ValueError(kind)
     except (ValueError, IndexError, TypeError):
-        raise Unfit("the setup cannot be read: `futurebus show` says where") from None
+        raise Unfit(f"{path}: the setup cannot be read: `futurebus show` says where") from None
     if memory is None or not boards:
-        raise Unfit("the setup has no memory or no boards: `futurebus show` says more")
+        raise Unfit(f"{path}: the setup has no memory or no boards: `futurebus show` says more")
     return Setup(memory, tables, boards)
 
 
@@ -115,20 +128,25 @@ FIELDS = {
 
 
 class Event:
-    """An event of a trace. Nothing changes it once it is read, since a line that comes again gives the same one. It has the
-    fields of its kind, and `line` and `access`, which may be none; where there is an access, `done` is what the trace says
-    of it. A data line seldom comes again, but what it says before its access does: `move` is the event of that part."""
+    """An event of a trace. Nothing changes it once it is read, since a line that comes again gives the same one.
 
-    __slots__ = ("kind", "board", "line", "before", "after", "access", "address", "value", "winner", "lines", "rounds", "event", "result", "answers", "source", "takers", "states", "done", "move")
+    It has the fields of its kind, and `line` and `access`, which may be none; where there is an access, `done` is what
+    the trace says of it. A data line seldom comes again, but what it says before its access does: `move` is the event
+    of that part, with all fields but those of the access."""
 
-    def __init__(self, kind, board):
-        self.kind, self.board, self.line, self.access = kind, board, None, None
+    __slots__ = (
+        "kind", "board", "line", "before", "after", "access", "address", "value", "winner", "lines", "rounds", "event",
+        "result", "answers", "source", "takers", "states", "done", "move",
+    )
+
+    def __init__(self, kind, board, line=None):
+        self.kind, self.board, self.line, self.access = kind, board, line, None
 
     def put_access(self, done):
         words = done.split(" ")
         self.done, self.access = done, words[0]
-        self.address = None if done == "evict" else int(words[1])
-        self.value = int(words[-1]) if self.access in ("read", "write") else None
+        self.address = int(words[1]) if len(words) > 1 else None
+        self.value = int(words[-1]) if len(words) > 2 else None
 
 
 def by_place(words):
@@ -162,22 +180,20 @@ def read_short(line):
 def read_move(text):
     """The event of a data line without its access, read from what stands before `done`."""
     words = text.split(" ")
-    event = Event("data", int(words[1]))
-    event.event, event.line, event.source = words[2], int(words[4]), words[6]
+    event = Event("data", int(words[1]), int(words[4]))
+    event.event, event.source = words[2], words[6]
     event.takers = () if words[8] == "none" else tuple(words[8].split(","))
     event.states = by_place(words[10:])
     return event
 
 
-def read_event(line):
-    """The event of a line of a trace that replay accepts, or none for a line that is of no event."""
-    if not line.startswith("data "):
-        return read_short(line)
+def read_data(line):
+    """The event of a data line."""
     text, _, done = line.partition(" done ")
     move = read_move(text)
-    event = Event("data", move.board)
-    event.move, event.line, event.event = move, move.line, move.event
-    event.source, event.takers, event.states = move.source, move.takers, move.states
+    event = Event("data", move.board, move.line)
+    event.move, event.event, event.source = move, move.event, move.source
+    event.takers, event.states = move.takers, move.states
     event.put_access(done.rstrip("\n"))
     return event
 
@@ -185,8 +201,16 @@ def read_event(line):
 NO_COPY = ("I", (0, 0, 0, 0))
 
 
+def written(words, event):
+    """The words of a line, with the one that an event writes."""
+    words = list(words)
+    words[event.address & 3] = event.value
+    return words
+
+
 class Machine:
-    """The configuration between two events."""
+    """The configuration between two events. A list of the words of a line is never changed: a write puts another in its
+    place. So a copy and memory may have the same list, and a tool may keep it."""
 
     def __init__(self, setup):
         self.setup = setup
@@ -197,20 +221,21 @@ class Machine:
         self.connected = None
         self.place = {board.place: 0 for board in setup.boards}
         self.answers = {board.place: hashlib.blake2b() for board in setup.boards}
+        self.steps = {kind: getattr(self, f"do_{kind}") for kind in FIELDS}
 
     def row(self, board, line):
         """The state and the words of a board's copy of a line."""
         return self.rows.get((board, line), NO_COPY)
 
     def state(self, board, line):
-        return self.row(board, line)[0]
+        return self.rows.get((board, line), NO_COPY)[0]
 
     def words(self, board, line):
-        return self.row(board, line)[1]
+        return self.rows.get((board, line), NO_COPY)[1]
 
     def present(self, board):
         """The next access of a board, or none."""
-        script, place = self.setup.board(board).script, self.place[board]
+        script, place = self.setup.boards[board - 1].script, self.place[board]
         return script[place] if place < len(script) else None
 
     def put(self, board, line, state, words):
@@ -220,64 +245,60 @@ class Machine:
             self.rows[board, line] = (state, words)
 
     def complete(self, event):
+        """Counts an access that a board has done."""
         board = event.board
-        self.place[board] += 1
+        place = self.place[board] = self.place[board] + 1
         if event.access == "read":
-            self.answers[board].update(b"answer %d %d %d %d\n" % (board, self.place[board], event.address, event.value))
+            self.answers[board].update(b"answer %d %d %d %d\n" % (board, place, event.address, event.value))
 
     def apply(self, event):
-        kind, board = event.kind, event.board
-        if kind == "local":
-            words = self.words(board, event.line)
-            if event.access == "write":
-                words = list(words)
-                words[event.address & 3] = event.value
-            self.put(board, event.line, event.after, words)
-            self.raised.discard(board)
-            if self.granted == board:
-                self.granted = 0
+        self.steps[event.kind](event)
+
+    def do_local(self, event):
+        board, line = event.board, event.line
+        words = self.words(board, line)
+        self.put(board, line, event.after, written(words, event) if event.access == "write" else words)
+        self.raised.discard(board)
+        if self.granted == board:
+            self.granted = 0
+        self.complete(event)
+
+    def do_drop(self, event):
+        self.rows.pop((event.board, event.line), None)
+
+    def do_data(self, event):
+        """The words that a data phase moves, and the states that it leaves."""
+        board, line = event.board, event.line
+        words = self.supplied(event) if event.event in ("rd", "rfo") else self.words(board, line)
+        if event.access == "write":
+            words = written(words, event)
+        for taker in event.takers:
+            if taker == "memory":
+                self.memory[line] = written(self.memory[line], event) if event.access == "write" else words
+            else:
+                state, row = self.row(int(taker), line)
+                self.rows[int(taker), line] = state, written(row, event)
+        for other, state in event.states.items():
+            self.put(other, line, state, words if other == board else self.words(other, line))
+        self.connected = None
+        if event.access != "evict":
             self.complete(event)
-        elif kind == "raise":
-            self.raised.add(board)
-        elif kind == "grant":
-            self.granted = event.winner
-            self.raised.discard(event.winner)
-        elif kind == "connect":
-            self.granted, self.connected = 0, event
-        elif kind == "data":
-            self.move(event)
-        else:
-            self.put(board, event.line, "I", None)
+
+    def do_raise(self, event):
+        self.raised.add(event.board)
+
+    def do_connect(self, event):
+        self.granted, self.connected = 0, event
+
+    def do_grant(self, event):
+        self.granted = event.winner
+        self.raised.discard(event.winner)
 
     def supplied(self, event):
         """The words that the source of a data phase supplies, or none."""
         if event.source == "none":
             return None
         return self.memory[event.line] if event.source == "memory" else self.words(int(event.source), event.line)
-
-    def move(self, event):
-        board, line = event.board, event.line
-        words = list(self.supplied(event) if event.event in ("rd", "rfo") else self.words(board, line))
-        writes = event.access == "write"
-        if writes:
-            words[event.address & 3] = event.value
-        for taker in event.takers:
-            if taker != "memory":
-                row = list(self.words(int(taker), line))
-                row[event.address & 3] = event.value
-                self.rows[int(taker), line] = (self.state(int(taker), line), row)
-            elif writes:
-                self.memory[line][event.address & 3] = event.value
-            else:
-                self.memory[line] = list(words)
-        for other, state in event.states.items():
-            if other == board:
-                self.put(board, line, state, words)
-            else:
-                self.put(other, line, state, self.words(other, line))
-        self.connected = None
-        if event.access != "evict":
-            self.complete(event)
 
     def ending(self):
         """The lines of memory and copies that stand after `end`, after the answers."""
@@ -287,80 +308,114 @@ class Machine:
             yield "copy %d %d %s %d %d %d %d\n" % (board, line, state, *words)
 
 
-class Trace:
-    """The events of a trace that replay accepts, one after another. `machine` stands before the event that was given last
-    until the next one is asked for. What an audit printed is of no complete run, and has no judge but the audit itself."""
+class Judge:
+    """What `futurebus replay` says of a trace: it accepts it, and prints the ending that the trace has, if it has one.
 
-    def __init__(self, setup, path, program=PROGRAM, setup_path=None, is_audit=False):
-        self.setup, self.path, self.machine, self.number, self.wanted = setup, path, Machine(setup), 0, None
-        if not is_audit:
-            self.judge(program, setup_path)
+    `answers` are the answers that it prints, hashed board by board, and `rest` its lines of memory and copies."""
 
-    def judge(self, program, setup_path):
-        """Asks replay, and compares the ending that it prints with the one in the trace."""
+    def __init__(self, setup, path, program, setup_path):
+        self.path, self.first, self.rest = path, b"", []
+        self.answers = {board.place: hashlib.blake2b() for board in setup.boards}
+        words = [program, "replay", setup_path, path]
         try:
-            replay = subprocess.Popen([program, "replay", setup_path, self.path], stdout=subprocess.PIPE, stdin=subprocess.DEVNULL, stderr=subprocess.DEVNULL)
+            replay = subprocess.Popen(
+                words, stdout=subprocess.PIPE, stdin=subprocess.DEVNULL, stderr=subprocess.DEVNULL
+            )
         except OSError as error:
             raise Unfit(f"{program}: {error.strerror}") from None
-        answers, rest, first = {board.place: hashlib.blake2b() for board in self.setup.boards}, [], b""
-        with open(self.path, "rb") as trace, replay:
+        with replay:
+            differs = self.compare(replay.stdout)
+        if replay.returncode:
+            said = text_of(self.first) if self.first else f"status {replay.returncode}"
+            raise Unfit(f"{path}: `futurebus replay` says: {said}")
+        if differs:
+            raise Unfit(f"{path}: {differs}")
+
+    def compare(self, printed):
+        """Keeps what replay prints. Gives how the ending in the trace differs from it, or none."""
+        with open(self.path, "rb") as trace:
             for line in trace:
                 if line == b"end\n":
                     break
-            lines = iter(trace)
-            is_told, number, differs = None, 0, None
-            for line in replay.stdout:
-                first = first or line
-                number += 1
-                if is_told is not False:
-                    other = next(lines, None)
-                    is_told = other is not None if is_told is None else is_told
-                    if is_told and other != line and not differs:
-                        differs = f"line {number} after `end` is {text_of(other)}, and replay says {text_of(line)}"
-                if line.startswith(b"answer "):
-                    answers[int(line.split(b" ")[1])].update(line)
-                else:
-                    rest.append(line)
-            extra = next(lines, None) if is_told else None
-        if replay.returncode:
-            raise Unfit(f"{self.path}: `futurebus replay` says: {text_of(first) or f'status {replay.returncode}'}")
-        if differs or extra is not None:
-            raise Unfit(f"{self.path}: {differs or f'{text_of(extra)} stands after the ending'}")
-        self.wanted = {place: digest.digest() for place, digest in answers.items()}, rest
+            first = next(trace, None)
+            lines, differs = itertools.chain([first], trace), None
+            for number, line in enumerate(printed, 1):
+                self.keep(line)
+                if first is not None and not differs and (other := next(lines, None)) != line:
+                    differs = f"line {number} after `end` is {text_of(other)}, and replay says {text_of(line)}"
+            extra = next(lines, None) if first is not None else None
+        if extra is not None and not differs:
+            differs = f"{text_of(extra)} stands after the ending"
+        return differs
+
+    def keep(self, line):
+        self.first = self.first or line
+        if line.startswith(b"answer "):
+            self.answers[int(line.split(b" ", 2)[1])].update(line)
+        else:
+            self.rest.append(line)
+
+    def check(self, machine):
+        """What was computed here is what replay prints."""
+        for place, answers in self.answers.items():
+            if machine.answers[place].digest() != answers.digest():
+                raise Unfit(f"{self.path}: the answers of board {place} are not those that replay prints")
+        for ours, theirs in itertools.zip_longest(machine.ending(), self.rest, fillvalue=""):
+            if ours.encode() != (theirs or b""):
+                raise Unfit(f"{self.path}: {text_of(ours.encode())} is computed, and replay prints {text_of(theirs)}")
+
+
+class Trace:
+    """The events of a trace that replay accepts, one after another. `machine` stands before the event that was given
+    last until the next one is asked for. What an audit printed is no complete run, so replay is not asked about it."""
+
+    def __init__(self, setup, path, program=PROGRAM, setup_path=None, is_audit=False):
+        self.setup, self.path, self.machine, self.number = setup, path, Machine(setup), 0
+        self.judge = None if is_audit else Judge(setup, path, program, setup_path)
 
     def lines(self):
         """The lines of memory that events name, in order."""
         found, words = set(), set()
-        with open(self.path, encoding="ascii") as trace:
-            while text := "".join(trace.readlines(1 << 20)):
-                found.update(re.findall(r"^[cd]\w+ \d+ (?:\w+ )?line (\d+)", text, re.M))
-                words.update(re.findall(r"^local .* done \w+ (\d+)", text, re.M))
+        with open(self.path, "rb") as trace:
+            while text := b"\n" + b"".join(trace.readlines(1 << 20)):
+                if len(text) == 1:
+                    break
+                found.update(re.findall(rb" line (\d+)", text))
+                words.update(re.findall(rb"\nlocal \d+ \w to \w done \w+ (\d+)", text))
         return sorted({*map(int, found), *(int(address) >> 2 for address in words)})
 
-    def __iter__(self):
-        apply = self.machine.apply
+    def blocks(self):
+        """The events in lists, since to read them one at a time costs more. No event stands after the end of them."""
         with open(self.path, encoding="ascii") as trace:
-            for line in trace:
-                event = read_event(line)
-                if event is None:
+            while lines := trace.readlines(BLOCK):
+                events = [read_data(line) if line.startswith("data ") else read_short(line) for line in lines]
+                if events[-1] is None:
+                    yield events[: events.index(None)]
                     break
-                self.number += 1
-                yield event
-                apply(event)
+                yield events
+
+    def read(self):
+        return itertools.chain.from_iterable(self.blocks())
+
+    def __iter__(self):
+        steps = self.machine.steps
+        for self.number, event in enumerate(self.read(), 1):
+            yield event
+            steps[event.kind](event)
+        self.check()
+
+    def applied(self):
+        """The events, each when `machine` stands after it."""
+        steps = self.machine.steps
+        for self.number, event in enumerate(self.read(), 1):
+            steps[event.kind](event)
+            yield event
         self.check()
 
     def check(self):
-        """What was computed here is what replay prints."""
-        if self.wanted is None:
-            return
-        answers, rest = self.wanted
-        own = {place: digest.digest() for place, digest in self.machine.answers.items()}
-        if own != answers:
-            board = min(place for place in own if own[place] != answers[place])
-            raise Unfit(f"{self.path}: the answers of board {board} are not those that replay prints")
-        for ours, theirs in itertools.zip_longest(self.machine.ending(), rest, fillvalue=""):
-            if ours.encode() != (theirs or b""):
-                raise Unfit(f"{self.path}: {text_of(ours.encode())} is computed, and replay prints {text_of(theirs)}")
+        """Asks the judge whether what was computed here is what replay prints."""
+        if self.judge:
+            self.judge.check(self.machine)
 
 
 def text_of(line):
@@ -369,9 +424,7 @@ def text_of(line):
 
 def read(setup_path, trace_path, program=PROGRAM):
     """The setup and the trace of two files."""
-    with open(setup_path, encoding="utf-8", errors="replace", newline="") as file:
-        text = file.read()
-    setup = read_setup(text)
+    setup = read_setup(setup_path)
     return setup, Trace(setup, trace_path, program, setup_path)
 
 
@@ -381,13 +434,22 @@ def write(out, lines):
         out.write(block)
 
 
-def numbers(text):
-    """A list of numbers such as 0,2,5, or of ranges such as 0-3,7."""
+def ranges(text):
+    """The ranges of a text such as 0,2,5 or 0-3,7."""
     found = []
     for part in text.split(","):
         low, dash, high = part.partition("-")
-        found += range(int(low), int(high or low) + 1) if dash else [int(low)]
+        found.append(range(int(low), int(high if dash else low) + 1))
+        if not found[-1]:
+            raise argparse.ArgumentTypeError(f"{part} ends before it begins")
     return found
+
+
+def lines_of(asked, setup, option="--lines"):
+    """The lines of memory in these ranges. One that the memory of the setup has not is refused."""
+    if any(part.start < 0 or part.stop > len(setup.memory) for part in asked):
+        raise Unfit(f"{option}: the memory has the lines 0 to {len(setup.memory) - 1}")
+    return list(dict.fromkeys(itertools.chain.from_iterable(asked)))
 
 
 def run_main(name, main):
