@@ -79,7 +79,7 @@ fn say_command(text: &mut Text, command: Command, words: &[String]) -> Result<()
 }
 
 /// Why words ask for no command.
-pub fn explain_words(alloc: Global, words: &[String]) -> Result<Text, NoMemory> {
+pub fn words_reason(alloc: Global, words: &[String]) -> Result<Text, NoMemory> {
     let mut text = Text::new(alloc);
     match words {
         [] => {

@@ -1,27 +1,34 @@
-//! Why a text is refused: the line and the word at fault, and what may stand there.
+//! Why a command is refused: the line and the word at fault, and what may stand there.
 #![tactic(auto)]
 
 mod commands;
+mod expected;
+mod explaining;
 mod fault;
+mod files;
 mod help;
 mod line;
 mod nearest;
 mod numbers;
 mod reader;
+mod refusals;
+mod replayed;
 mod say;
+mod seen;
 mod sentences;
-mod setup;
+mod setup_lines;
 mod shown;
 mod tables;
 mod texts;
+mod trace;
 mod verdict;
 mod wanted;
 
 pub use commands::Command;
-pub use help::{explain_words, help_of, help_text};
+pub use explaining::{explain_length, explain_schedule, explain_setup, explain_tables, explain_trace};
+pub use explaining::{explain_unread, explain_words};
+pub use help::{help_of, help_text};
 pub use no_memory::NoMemory;
-pub use texts::{explain_schedule, explain_setup, explain_tables};
-pub use verdict::explain_verdict;
 
 #[cfg(test)]
 mod tests;

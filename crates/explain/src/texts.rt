@@ -1,13 +1,17 @@
 //! The explanation of a text that is refused.
 
+ghost use Rattle.std.specs.Prelude.{◌<◌, ◌^◌, IsTrue, length};
+
 use crate::fault::{Fault, Stop};
 use crate::say::counted;
 use crate::sentences::say_why;
-use crate::setup::{read_parts, read_turns};
+use crate::setup_lines::{read_parts, read_turns};
 use crate::shown::{can_be_shown, name_bytes, show};
 use crate::tables::read_tables;
+use crate::verdict::verdict_reason;
 use fb_text::Text;
 use no_memory::NoMemory;
+use setup_text::{read_book, read_setup};
 use std::alloc::Global;
 
 /// Appends the line of a fault and its sentences, or the bytes that keep the line from being shown.
@@ -33,17 +37,34 @@ fn explanation(alloc: Global, read: Result<(), Stop>) -> Result<Text, NoMemory> 
     Ok(text)
 }
 
-/// Why a text is no setup.
-pub fn explain_setup(alloc: Global, bytes: &[u8]) -> Result<Text, NoMemory> {
+/// Whether a text is short enough to be read.
+fn is_short(bytes: &[u8]) -> bool
+    ensures { IsTrue result → length bytes.now < 2 ^ 31 }
+{
+    bytes.len() < 2_147_483_648
+}
+
+/// Why a setup is refused. It is empty where it is not.
+pub fn setup_reason(alloc: Global, bytes: &[u8]) -> Result<Text, NoMemory> {
+    if is_short(bytes) {
+        if let Ok(setup) = read_setup(alloc, bytes) {
+            return verdict_reason(alloc, bytes, setup.tables());
+        }
+    }
     explanation(alloc, read_parts(alloc, bytes))
 }
 
-/// Why a text is no text of tables.
-pub fn explain_tables(alloc: Global, bytes: &[u8]) -> Result<Text, NoMemory> {
+/// Why a text of tables is refused. It is empty where it is not.
+pub fn tables_reason(alloc: Global, bytes: &[u8]) -> Result<Text, NoMemory> {
+    if is_short(bytes) {
+        if let Ok(tables) = read_book(alloc, bytes) {
+            return verdict_reason(alloc, bytes, &tables);
+        }
+    }
     explanation(alloc, read_tables(alloc, bytes))
 }
 
-/// Why a text is no schedule of so many boards.
-pub fn explain_schedule(alloc: Global, bytes: &[u8], boards: u8) -> Result<Text, NoMemory> {
+/// Why a text is no schedule of so many boards. It is empty where it is one.
+pub fn schedule_reason(alloc: Global, bytes: &[u8], boards: u8) -> Result<Text, NoMemory> {
     explanation(alloc, read_turns(bytes, boards))
 }

@@ -287,7 +287,7 @@ fn say_faults(
 }
 
 /// Why the tables of a text are refused. They are those that the text spells.
-pub fn explain_verdict(alloc: Global, bytes: &[u8], tables: &[Table]) -> Result<Text, NoMemory> {
+pub fn verdict_reason(alloc: Global, bytes: &[u8], tables: &[Table]) -> Result<Text, NoMemory> {
     let mut text = Text::new(alloc);
     for table in tables {
         say_faults(alloc, &mut text, bytes, table)?;
