@@ -1,7 +1,7 @@
 //! The commands of the program, and what each takes.
 
 /// A command of the program.
-#[derive(Clone, Copy, Debug, PartialEq, Eq)]
+#[derive(Clone, Copy)]
 pub enum Command {
     Check,
     Show,
@@ -42,7 +42,10 @@ impl Command {
             "--version" => "version",
             other => other,
         };
-        COMMANDS.iter().find(|command| command.name() == word).copied()
+        COMMANDS
+            .iter()
+            .find(|command| command.name() == word)
+            .copied()
     }
 
     pub fn name(self) -> &'static str {
@@ -71,6 +74,20 @@ impl Command {
             Command::Explain => "WORDS, those of another command",
             Command::Help => "[COMMAND]",
             Command::Version => "",
+        }
+    }
+
+    /// The least and the most words after the command's name.
+    pub fn counts(self) -> (usize, usize) {
+        match self {
+            Command::Check | Command::Show | Command::Race | Command::Make | Command::Tally => (
+                1, 1,
+            ),
+            Command::Run => (2, 3),
+            Command::Replay => (2, 2),
+            Command::Explain => (1, 4),
+            Command::Help => (0, 1),
+            Command::Version => (0, 0),
         }
     }
 

@@ -4,6 +4,7 @@
 //! takes is shown.
 
 use crate::reader::{Reader, Word};
+use crate::refusals::say_choice;
 use crate::say::{counted, number, put, say, say_access};
 use crate::seen::{Phase, Seen};
 use crate::shown::show_line;
@@ -51,9 +52,7 @@ impl<'a> At<'a> {
             word = reader.next_word();
         }
         match word {
-            Some(word) => {
-                show_line(text, self.number, self.line, word.before, word.bytes.len())
-            }
+            Some(word) => { show_line(text, self.number, self.line, word.before, word.bytes.len()) }
             None => self.show(text),
         }
     }
@@ -74,7 +73,12 @@ impl<'a> At<'a> {
 
 /// Appends that a board has nothing left to do.
 pub fn say_finished(text: &mut Text, board: BoardNo) -> Result<(), NoMemory> {
-    counted(text, "Board ", u64::from(board.0), " has done all of its accesses.\n")
+    counted(
+        text,
+        "Board ",
+        u64::from(board.0),
+        " has done all of its accesses.\n",
+    )
 }
 
 /// Appends who has the bus.
@@ -82,10 +86,20 @@ pub fn say_phase(text: &mut Text, phase: Phase) -> Result<(), NoMemory> {
     match phase {
         Phase::Idle => say(text, "Nobody has the bus.\n"),
         Phase::Granted(board) => {
-            counted(text, "The bus is granted to board ", u64::from(board.0), ", which has not connected.\n")
+            counted(
+                text,
+                "The bus is granted to board ",
+                u64::from(board.0),
+                ", which has not connected.\n",
+            )
         }
         Phase::Connected(board) => {
-            counted(text, "A transaction of board ", u64::from(board.0), " is connected, whose data has not moved.\n")
+            counted(
+                text,
+                "A transaction of board ",
+                u64::from(board.0),
+                " is connected, whose data has not moved.\n",
+            )
         }
     }
 }
@@ -131,18 +145,15 @@ fn local_line(
     Ok(line)
 }
 
-/// Appends why a board does not do its access by itself now.
+/// Appends that a board does not do its access by itself now.
 fn say_not_local(
     text: &mut Text,
     seen: &Seen,
     board: BoardNo,
     access: Access,
 ) -> Result<(), NoMemory> {
-    counted(text, "Board ", u64::from(board.0), " cannot do ")?;
-    say_access(text, access)?;
-    say(text, " by itself now. It has the line in state ")?;
-    say(text, state_text(seen.state(board, access.addr().line())))?;
-    say(text, ". ")?;
+    say(text, "This access is not done without the bus now. ")?;
+    say_choice(text, seen, board, access)?;
     say_phase(text, seen.phase())
 }
 
@@ -193,7 +204,12 @@ pub fn say_drop(
         }
     }
     at.show(text)?;
-    counted(text, "Board ", u64::from(board.0), " has no clean copy that has to go now.\n")
+    counted(
+        text,
+        "Board ",
+        u64::from(board.0),
+        " has no clean copy that has to go now.\n",
+    )
 }
 
 /// The line of a grant.
@@ -246,7 +262,12 @@ pub fn say_grant(
     if seen.is_raised(by) {
         return say_phase(text, seen.phase());
     }
-    counted(text, "Board ", u64::from(by.0), ", whose turn this is, has no request raised.\n")
+    counted(
+        text,
+        "Board ",
+        u64::from(by.0),
+        ", whose turn this is, has no request raised.\n",
+    )
 }
 
 /// Appends the line of the last event.
@@ -274,7 +295,12 @@ pub fn say_data(
 ) -> Result<(), NoMemory> {
     if seen.phase() != Phase::Connected(board) {
         at.show(text)?;
-        counted(text, "Board ", u64::from(board.0), " has no transaction connected. ")?;
+        counted(
+            text,
+            "Board ",
+            u64::from(board.0),
+            " has no transaction connected. ",
+        )?;
         return say_phase(text, seen.phase());
     }
     if board.0 > 0 && board.0 <= seen.machine.boards() {

@@ -5,7 +5,7 @@ use no_memory::NoMemory;
 use setup_text::LimitOf;
 
 /// What may stand at a place.
-#[derive(Clone, Copy, Debug, PartialEq, Eq)]
+#[derive(Clone, Copy)]
 pub enum Wanted {
     /// The `memory` line of a setup.
     Memory,
@@ -42,7 +42,7 @@ pub enum Wanted {
 }
 
 /// What a number counts.
-#[derive(Clone, Copy, Debug, PartialEq, Eq)]
+#[derive(Clone, Copy)]
 pub enum Quantity {
     Lines,
     Address,
@@ -61,26 +61,56 @@ pub enum Why<'a> {
     /// Something else may stand here.
     Expected(Wanted),
     /// A number from `least` to `most` may stand here.
-    Number { of: Quantity, least: u64, most: u64 },
+    Number {
+        of: Quantity,
+        least: u64,
+        most: u64,
+    },
     /// The board's place is not the next one.
-    NextPlace { next: u64 },
+    NextPlace {
+        next: u64,
+    },
     /// The signal cannot follow the one before it.
-    Signals { after: &'static str },
+    Signals {
+        after: &'static str,
+    },
     /// A line of this kind stands before the lines that were read.
-    TooLate { word: &'static str, after: &'static str },
+    TooLate {
+        word: &'static str,
+        after: &'static str,
+    },
     /// An access stands after a board.
     NoBoardYet,
     /// A table was begun and is not ended.
-    TableNotEnded { name: &'a [u8], line: u32 },
-    TwiceCell { line: u32 },
-    TwiceName { line: u32 },
-    TwiceNumber { board: u64, line: u32 },
+    TableNotEnded {
+        name: &'a [u8],
+        line: u32,
+    },
+    TwiceCell {
+        line: u32,
+    },
+    TwiceName {
+        line: u32,
+    },
+    TwiceNumber {
+        board: u64,
+        line: u32,
+    },
     NoAlternative,
     /// No table has the name; this one has nearly the name.
-    NoTable { nearest: Option<&'a [u8]> },
+    NoTable {
+        nearest: Option<&'a [u8]>,
+    },
     /// The table, at this line, leads to a state other than I.
-    NoFrames { name: &'a [u8], line: u32 },
-    Limit { of: LimitOf, count: u64, most: u64 },
+    NoFrames {
+        name: &'a [u8],
+        line: u32,
+    },
+    Limit {
+        of: LimitOf,
+        count: u64,
+        most: u64,
+    },
     /// The text has no words.
     Empty,
     /// The text ends before its `end` line.

@@ -12,7 +12,10 @@ pub fn unread_reason(alloc: Global, name: &str, role: &str) -> Result<Text, NoMe
     say(&mut text, name)?;
     say(&mut text, ", which is ")?;
     say(&mut text, role)?;
-    say(&mut text, " of this command, was not read. Is its name right, and may it be read?\n")?;
+    say(
+        &mut text,
+        " of this command, was not read. Is its name right, and may it be read?\n",
+    )?;
     Ok(text)
 }
 
@@ -30,6 +33,6 @@ pub fn length_reason(
         Some(length) => counted(&mut text, " has ", length, " bytes")?,
         None => say(&mut text, " is too long")?,
     }
-    counted(&mut text, "; there may be at most ", limit, ".\n")?;
+    counted(&mut text, "; there may be at most ", limit, " bytes.\n")?;
     Ok(text)
 }

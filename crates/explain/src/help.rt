@@ -30,7 +30,10 @@ pub fn help_text(alloc: Global) -> Result<Text, NoMemory> {
         &mut text,
         "status: 0 done, 1 refused, 2 words, 3 grammar, 4 file not read, 5 not written, 6 no memory, 7 file too long\n",
     )?;
-    say(&mut text, "documents: README.md, docs/TEXTS.md, docs/MODEL.md\n")?;
+    say(
+        &mut text,
+        "documents: README.md, docs/TEXTS.md, docs/MODEL.md\n",
+    )?;
     Ok(text)
 }
 
@@ -57,22 +60,39 @@ fn say_no_command(text: &mut Text, word: &str) -> Result<(), NoMemory> {
     say_guess(text, word.as_bytes(), &NAMES)
 }
 
-/// Appends what is wrong with the last word of a command that takes a number there.
-fn say_seed(text: &mut Text, words: &[String]) -> Result<(), NoMemory> {
-    match words {
-        [_, number] => say_number(text, number.as_str().as_bytes()),
-        [_, _, seed, number] if seed.as_str() == "seed" => {
-            say_number(text, number.as_str().as_bytes())
+/// Appends what is wrong with the words of a command that are as many as it takes.
+fn say_last(text: &mut Text, command: Command, words: &[String]) -> Result<(), NoMemory> {
+    match (command, words) {
+        (Command::Make | Command::Tally, [number]) => say_number(text, number.as_str().as_bytes()),
+        (Command::Run, [_, seed, number]) => {
+            if seed.as_str() == "seed" {
+                return say_number(text, number.as_str().as_bytes());
+            }
+            say(text, seed.as_str())?;
+            say(text, " cannot stand here.\n")
         }
         _ => Ok(()),
     }
 }
 
-/// Appends what a command takes, and which of its words is wrong.
-fn say_command(text: &mut Text, command: Command, words: &[String]) -> Result<(), NoMemory> {
-    if matches!(command, Command::Make | Command::Tally | Command::Run) {
-        say_seed(text, words)?;
+/// Appends which of the words after a command's name is wrong.
+fn say_wrong_word(text: &mut Text, command: Command, words: &[String]) -> Result<(), NoMemory> {
+    let (least, most) = command.counts();
+    if words.len() < least {
+        return say(text, "A word is missing.\n");
     }
+    match words.get(most) {
+        Some(word) => {
+            say(text, word.as_str())?;
+            say(text, " is one word too many.\n")
+        }
+        None => say_last(text, command, words),
+    }
+}
+
+/// Appends what a command takes, and which of the words after its name is wrong.
+fn say_command(text: &mut Text, command: Command, words: &[String]) -> Result<(), NoMemory> {
+    say_wrong_word(text, command, words)?;
     say(text, "Expected: ")?;
     say_form(text, command)?;
     say(text, ".\n")
@@ -87,8 +107,8 @@ pub fn words_reason(alloc: Global, words: &[String]) -> Result<Text, NoMemory> {
             choices(&mut text, &NAMES)?;
             say(&mut text, ".\n")?;
         }
-        [first, ..] => match Command::named(first.as_str()) {
-            Some(command) => say_command(&mut text, command, words)?,
+        [first, rest @ ..] => match Command::named(first.as_str()) {
+            Some(command) => say_command(&mut text, command, rest)?,
             None => say_no_command(&mut text, first.as_str())?,
         },
     }

@@ -25,8 +25,10 @@ mod verdict;
 mod wanted;
 
 pub use commands::Command;
-pub use explaining::{explain_length, explain_schedule, explain_setup, explain_tables, explain_trace};
-pub use explaining::{explain_unread, explain_words};
+pub use explaining::{
+    explain_length, explain_schedule, explain_setup, explain_tables, explain_trace, explain_unread,
+    explain_words,
+};
 pub use help::{help_of, help_text};
 pub use no_memory::NoMemory;
 

@@ -25,7 +25,12 @@ pub fn say_range(text: &mut Text, of: Quantity, least: u64, most: u64) -> Result
     say(text, "Expected ")?;
     say(text, quantity(of))?;
     if matches!(of, Quantity::Place) {
-        return counted(text, ", which is ", least, ": boards are numbered in order.\n");
+        return counted(
+            text,
+            ", which is ",
+            least,
+            ": boards are numbered in order.\n",
+        );
     }
     counted(text, ", a number from ", least, "")?;
     counted(text, " to ", most, ".\n")

@@ -46,7 +46,7 @@ fn say_answers(text: &mut Text, actions: &[SnoopAction]) -> Result<(), NoMemory>
 }
 
 /// Appends the cell of a board for its next access, as its table has it.
-fn say_choice(
+pub fn say_choice(
     text: &mut Text,
     seen: &Seen,
     board: BoardNo,
@@ -104,52 +104,104 @@ fn answer_of(transaction: &Connected, board: BoardNo) -> Option<SnoopAction> {
     None
 }
 
-/// Appends that a board answers as its table does not. Whether it does.
-fn say_wrong_answer(
+/// How many answers stand before that of a board. It is 0 where the board gives none.
+fn place_of(transaction: &Connected, board: BoardNo) -> usize {
+    let mut place = 0usize;
+    for answer in transaction.answers.items() {
+        if answer.board == board {
+            return place;
+        }
+        place = place.saturating_add(1);
+    }
+    0
+}
+
+/// What a board may answer, where it has to.
+fn asked<'a>(seen: &'a Seen, transaction: &Connected, board: BoardNo) -> Option<&'a [SnoopAction]> {
+    let state = seen.state(board, transaction.line);
+    if board == transaction.master || !state.holds() {
+        return None;
+    }
+    match seen.table(board) {
+        Some(table) => Some(table.snoop(state, transaction.event)),
+        None => None,
+    }
+}
+
+/// Whether a board answers as its table has it, and no board answers that is not asked.
+fn answers_well(seen: &Seen, transaction: &Connected, board: BoardNo) -> bool {
+    let answer = answer_of(transaction, board);
+    match asked(seen, transaction, board) {
+        Some(cell) => match answer {
+            Some(action) => cell.contains(&action),
+            None => false,
+        },
+        None => answer.is_none(),
+    }
+}
+
+/// The first board whose answer is wrong.
+fn first_wrong(seen: &Seen, transaction: &Connected) -> Option<BoardNo> {
+    for place in 0..seen.machine.boards() {
+        let board = BoardNo(place.saturating_add(1));
+        if !answers_well(seen, transaction, board) {
+            return Some(board);
+        }
+    }
+    None
+}
+
+/// Appends why the answer of a board is wrong.
+fn say_wrong(
     text: &mut Text,
     seen: &Seen,
     transaction: &Connected,
     board: BoardNo,
-) -> Result<bool, NoMemory> {
-    let state = seen.state(board, transaction.line);
-    let answer = answer_of(transaction, board);
-    if !state.holds() || board == transaction.master {
-        if answer.is_some() {
-            say_board(text, board, " has no answer to give: it is the master, or has no copy.\n")?;
-        }
-        return Ok(answer.is_some());
-    }
-    let Some(table) = seen.table(board) else {
-        return Ok(false);
+) -> Result<(), NoMemory> {
+    let Some(cell) = asked(seen, transaction, board) else {
+        return say_board(
+            text,
+            board,
+            " is not asked: it is the master, or has no copy of the line.\n",
+        );
     };
-    let cell = table.snoop(state, transaction.event);
-    if let Some(action) = answer {
-        if cell.contains(&action) {
-            return Ok(false);
-        }
-    }
-    say_board(text, board, " has the line, and has to answer as its table has it: ")?;
-    say(text, state_text(state))?;
+    say_board(
+        text,
+        board,
+        " has a copy of the line, and has to answer as its table has it: ",
+    )?;
+    say(text, state_text(seen.state(board, transaction.line)))?;
     say(text, " ")?;
     say(text, bus_event_text(transaction.event))?;
     say(text, " =")?;
-    say_answers(text, cell)?;
-    Ok(true)
+    say_answers(text, cell)
 }
 
-/// Appends the first answer that is wrong. Whether there is one.
-fn say_first_wrong_answer(
+/// Appends why a transaction whose event is right cannot connect.
+fn say_unfit(
     text: &mut Text,
     seen: &Seen,
+    at: At,
     transaction: &Connected,
-) -> Result<bool, NoMemory> {
-    for place in 0..seen.machine.boards() {
-        let board = BoardNo(place.saturating_add(1));
-        if say_wrong_answer(text, seen, transaction, board)? {
-            return Ok(true);
-        }
+    is_flush: bool,
+) -> Result<(), NoMemory> {
+    if let Some(board) = first_wrong(seen, transaction) {
+        at.show_word(text, place_of(transaction, board).saturating_add(8))?;
+        return say_wrong(text, seen, transaction, board);
     }
-    Ok(false)
+    at.show_word(text, 4)?;
+    if is_flush {
+        return say_board(
+            text,
+            transaction.master,
+            " does not have to give this line up now.\n",
+        );
+    }
+    say_board(
+        text,
+        transaction.master,
+        " has no room for this line: another copy of its set has to go first.\n",
+    )
 }
 
 /// Appends why a transaction cannot connect.
@@ -166,19 +218,15 @@ pub fn say_connect(
         say_board(text, master, " has not been granted the bus. ")?;
         return say_phase(text, seen.phase());
     }
-    if flushes(seen, transaction, access) {
-        at.show(text)?;
-    } else if transaction.line != access.addr().line() {
+    let is_flush = flushes(seen, transaction, access);
+    if !is_flush && transaction.line != access.addr().line() {
         at.show_word(text, 4)?;
         return say_choice(text, seen, master, access);
-    } else if !has_alternative(seen.cell(master, access), transaction.event, transaction.outcome) {
+    }
+    let cell = seen.cell(master, access);
+    if !is_flush && !has_alternative(cell, transaction.event, transaction.outcome) {
         at.show_word(text, 2)?;
         return say_choice(text, seen, master, access);
-    } else {
-        at.show_word(text, 8)?;
     }
-    if say_first_wrong_answer(text, seen, transaction)? {
-        return Ok(());
-    }
-    say_board(text, master, " has no room for this line: another copy of its set has to go first.\n")
+    say_unfit(text, seen, at, transaction, is_flush)
 }

@@ -9,9 +9,16 @@ pub enum Stopped<'a> {
     /// Each line was a step, to the end of the trace.
     AtEnd,
     /// The line spells no event.
-    Misspelled { number: u64, line: &'a [u8] },
+    Misspelled {
+        number: u64,
+        line: &'a [u8],
+    },
     /// The event of the line may not happen.
-    Refused { number: u64, line: &'a [u8], event: Event },
+    Refused {
+        number: u64,
+        line: &'a [u8],
+        event: Event,
+    },
 }
 
 /// The first line, where it has a line feed, and what stands after it.
@@ -40,7 +47,11 @@ pub fn follow<'a>(machine: &mut Machine, trace: &'a [u8]) -> Stopped<'a> {
             return Stopped::Misspelled { number, line };
         };
         if machine.apply(&event).is_err() {
-            return Stopped::Refused { number, line, event };
+            return Stopped::Refused {
+                number,
+                line,
+                event,
+            };
         }
         number = number.saturating_add(1);
         rest = after;

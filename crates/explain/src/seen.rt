@@ -15,7 +15,7 @@ pub struct Seen {
 }
 
 /// Who has the bus.
-#[derive(Clone, Copy, Debug, PartialEq, Eq)]
+#[derive(Clone, Copy, PartialEq, Eq)]
 pub enum Phase {
     Idle,
     Granted(BoardNo),

@@ -87,7 +87,12 @@ fn limit_name(of: LimitOf) -> &'static str {
 /// Appends a limit and the count.
 fn say_limit(text: &mut Text, of: LimitOf, count: u64, most: u64) -> Result<(), NoMemory> {
     if count == 0 {
-        return counted(text, "There is no board. A setup has 1 to ", most, " boards.\n");
+        return counted(
+            text,
+            "There is no board. A setup has 1 to ",
+            most,
+            " boards.\n",
+        );
     }
     counted(text, "This makes ", count, " ")?;
     say(text, limit_name(of))?;
@@ -122,7 +127,10 @@ fn say_late(text: &mut Text, word: &str, after: &str) -> Result<(), NoMemory> {
     say(text, word)?;
     say(text, " line stands before the ")?;
     say(text, after)?;
-    say(text, ". The order is memory, word lines, tables, boards with their accesses, end.\n")
+    say(
+        text,
+        ". The order is memory, word lines, tables, boards with their accesses, end.\n",
+    )
 }
 
 /// Appends the sentences of a fault.
@@ -131,7 +139,12 @@ pub fn say_why(text: &mut Text, fault: &Fault) -> Result<(), NoMemory> {
         Why::Expected(wanted) => say_expected(text, word_of(fault), wanted),
         Why::Number { .. } => say_wrong_number(text, fault),
         Why::NextPlace { next } => {
-            counted(text, "Expected ", next, ": boards are numbered in order, from 1.\n")
+            counted(
+                text,
+                "Expected ",
+                next,
+                ": boards are numbered in order, from 1.\n",
+            )
         }
         Why::Signals { after } => say_signals(text, word_of(fault), after),
         Why::TooLate { word, after } => say_late(text, word, after),
@@ -146,22 +159,57 @@ pub fn say_why(text: &mut Text, fault: &Fault) -> Result<(), NoMemory> {
 fn say_other(text: &mut Text, why: &Why) -> Result<(), NoMemory> {
     match *why {
         Why::TableNotEnded { name, line } => {
-            say_at_line(text, "An end line is missing before this one, for table ", name, ", begun at line ", line)
+            say_at_line(
+                text,
+                "An end line is missing before this one, for table ",
+                name,
+                ", begun at line ",
+                line,
+            )
         }
-        Why::TwiceCell { line } => say_at_line(text, "This cell", b"", " was given before, at line ", line),
-        Why::TwiceName { line } => say_at_line(text, "A table of this name", b"", " stands at line ", line),
+        Why::TwiceCell { line } => say_at_line(
+            text,
+            "This cell",
+            b"",
+            " was given before, at line ",
+            line,
+        ),
+        Why::TwiceName { line } => say_at_line(
+            text,
+            "A table of this name",
+            b"",
+            " stands at line ",
+            line,
+        ),
         Why::TwiceNumber { board, line } => {
             counted(text, "This is the number of board ", board, ",")?;
-            counted(text, " at line ", u64::from(line), ". Each board has its own.\n")
+            counted(
+                text,
+                " at line ",
+                u64::from(line),
+                ". Each board has its own.\n",
+            )
         }
         Why::NoFrames { name, line } => {
-            say_at_line(text, "A plain board keeps no copy, but table ", name, " leads from I to another state at line ", line)?;
+            say_at_line(
+                text,
+                "A plain board keeps no copy, but table ",
+                name,
+                " leads from I to another state at line ",
+                line,
+            )?;
             say(text, "Write cached SETS WAYS.\n")
         }
         Why::NoAlternative => {
-            say(text, "The cell has no alternative. Expected a state (M, O, E, S or I) or CH:x/y after =.\n")
+            say(
+                text,
+                "The cell has no alternative. Expected a state (M, O, E, S or I) or CH:x/y after =.\n",
+            )
         }
-        Why::Empty => say(text, "The text is empty. A setup begins with memory LINES, and a text of tables with table NAME.\n"),
+        Why::Empty => say(
+            text,
+            "The text is empty. A setup begins with memory LINES, and a text of tables with table NAME.\n",
+        ),
         Why::SetupNotEnded => say(text, "The text ends without its last line, end.\n"),
         _ => Ok(()),
     }

@@ -63,7 +63,10 @@ fn word_line<'a>(
     word: Word<'a>,
 ) -> Result<(), Stop<'a>> {
     if !draft.boards.is_empty() || !draft.tables.is_empty() {
-        let late = Why::TooLate { word: "word", after: "tables and the boards" };
+        let late = Why::TooLate {
+            word: "word",
+            after: "tables and the boards",
+        };
         return Err(at(reader, Some(word), late));
     }
     value_line(reader, draft.words)
@@ -76,7 +79,10 @@ fn table_lines<'a>(
     word: Word<'a>,
 ) -> Result<(), Stop<'a>> {
     if !draft.boards.is_empty() {
-        let late = Why::TooLate { word: "table", after: "boards" };
+        let late = Why::TooLate {
+            word: "table",
+            after: "boards",
+        };
         return Err(at(reader, Some(word), late));
     }
     draft.tables.read(reader, word)
@@ -99,7 +105,10 @@ fn board_number<'a>(reader: &mut Reader<'a>, boards: &[Board]) -> Result<u64, St
     for earlier in boards {
         board = board.saturating_add(1);
         if earlier.number == number {
-            let twice = Why::TwiceNumber { board, line: earlier.line };
+            let twice = Why::TwiceNumber {
+                board,
+                line: earlier.line,
+            };
             return Err(at(reader, Some(word), twice));
         }
     }
@@ -122,7 +131,10 @@ fn table_and_shape<'a>(reader: &mut Reader<'a>, tables: &Tables<'a>) -> Result<(
     }
     match known.leaves {
         Some(line) => {
-            let caching = Why::NoFrames { name: known.name, line };
+            let caching = Why::NoFrames {
+                name: known.name,
+                line,
+            };
             Err(at(reader, Some(shape), caching))
         }
         None => Ok(()),
@@ -135,7 +147,11 @@ fn frames<'a>(reader: &mut Reader<'a>) -> Result<(), Stop<'a>> {
     let (ways, word) = number(reader, Quantity::Ways, 1, 256)?;
     let count = sets.saturating_mul(ways);
     if count > 256 {
-        let limit = Why::Limit { of: LimitOf::Frames, count, most: 256 };
+        let limit = Why::Limit {
+            of: LimitOf::Frames,
+            count,
+            most: 256,
+        };
         return Err(at(reader, Some(word), limit));
     }
     Ok(())
@@ -161,7 +177,11 @@ fn board_line<'a>(
 ) -> Result<(), Stop<'a>> {
     let count = draft.boards.len() as u64;
     if count >= 16 {
-        let limit = Why::Limit { of: LimitOf::Boards, count: 17, most: 16 };
+        let limit = Why::Limit {
+            of: LimitOf::Boards,
+            count: 17,
+            most: 16,
+        };
         return Err(at(reader, Some(word), limit));
     }
     place(reader, count)?;
@@ -188,7 +208,11 @@ fn access_line<'a>(
         return Err(at(reader, Some(word), Why::NoBoardYet));
     }
     if draft.accesses >= 100_000 {
-        let limit = Why::Limit { of: LimitOf::Accesses, count: 100_001, most: 100_000 };
+        let limit = Why::Limit {
+            of: LimitOf::Accesses,
+            count: 100_001,
+            most: 100_000,
+        };
         return Err(at(reader, Some(word), limit));
     }
     draft.accesses = draft.accesses.saturating_add(1);
@@ -206,7 +230,11 @@ fn end_line<'a>(
     word: Word<'a>,
 ) -> Result<(), Stop<'a>> {
     if draft.boards.is_empty() {
-        let limit = Why::Limit { of: LimitOf::Boards, count: 0, most: 16 };
+        let limit = Why::Limit {
+            of: LimitOf::Boards,
+            count: 0,
+            most: 16,
+        };
         return Err(at(reader, Some(word), limit));
     }
     line_end(reader)
@@ -275,7 +303,11 @@ fn turns<'a>(reader: &mut Reader<'a>, most: u64) -> Result<(), Stop<'a>> {
         match number_within(Some(word.bytes), most) {
             Ok(place) if place > 0 => {}
             _ => {
-                let why = Why::Number { of: Quantity::Turn, least: 1, most };
+                let why = Why::Number {
+                    of: Quantity::Turn,
+                    least: 1,
+                    most,
+                };
                 return Err(at(reader, Some(word), why));
             }
         }

@@ -80,8 +80,10 @@ pub fn show_line(
 fn hidden(line: &[u8]) -> &'static str {
     match line {
         [0xEF, 0xBB, 0xBF, ..] => "EF BB BF: a byte order mark (BOM); save the file without it.\n",
-        [0xFF, 0xFE, ..] => "FF FE: a text in UTF-16; save it as plain text (UTF-8 without a byte order mark).\n",
-        [0xFE, 0xFF, ..] => "FE FF: a text in UTF-16; save it as plain text (UTF-8 without a byte order mark).\n",
+        [0xFF, 0xFE, ..] =>
+            "FF FE: a text in UTF-16; save it as plain text (UTF-8 without a byte order mark).\n",
+        [0xFE, 0xFF, ..] =>
+            "FE FF: a text in UTF-16; save it as plain text (UTF-8 without a byte order mark).\n",
         _ => hidden_inside(line),
     }
 }

@@ -66,7 +66,11 @@ impl<'a> Tables<'a> {
     /// Reads one more table after the word `table`.
     pub fn read(&mut self, reader: &mut Reader<'a>, word: Word<'a>) -> Result<(), Stop<'a>> {
         if self.known.len() >= 16 {
-            let limit = Why::Limit { of: LimitOf::Tables, count: 17, most: 16 };
+            let limit = Why::Limit {
+                of: LimitOf::Tables,
+                count: 17,
+                most: 16,
+            };
             return Err(at(reader, Some(word), limit));
         }
         let line = reader.line();
@@ -76,7 +80,11 @@ impl<'a> Tables<'a> {
             return Err(at(reader, Some(name), twice));
         }
         line_end(reader)?;
-        let mut known = Known { name: name.bytes, line, leaves: None };
+        let mut known = Known {
+            name: name.bytes,
+            line,
+            leaves: None,
+        };
         cells(self.alloc, reader, &mut known)?;
         match self.known.push(known) {
             Ok(()) => Ok(()),
@@ -102,7 +110,10 @@ fn cells<'a>(
         }
         cell_line(reader, known, &mut given, word)?;
     }
-    let open = Why::TableNotEnded { name: known.name, line: known.line };
+    let open = Why::TableNotEnded {
+        name: known.name,
+        line: known.line,
+    };
     Err(at_text_end(reader, open))
 }
 
@@ -139,7 +150,10 @@ fn cell_line<'a>(
 /// Why a word begins no line of a table.
 fn no_cell<'a>(known: &Known<'a>, word: Word<'a>) -> Why<'a> {
     if begins_part(word.bytes) {
-        Why::TableNotEnded { name: known.name, line: known.line }
+        Why::TableNotEnded {
+            name: known.name,
+            line: known.line,
+        }
     } else {
         Why::Expected(Wanted::Cell)
     }
@@ -182,7 +196,11 @@ fn no_room<'a>(reader: &mut Reader<'a>, cell: Cell) -> Stop<'a> {
     let wanted = wanted_result(cell);
     match word {
         Some(found) if leads_away(cell, found.bytes).is_some() => {
-            let limit = Why::Limit { of: LimitOf::Alternatives, count: 17, most: 16 };
+            let limit = Why::Limit {
+                of: LimitOf::Alternatives,
+                count: 17,
+                most: 16,
+            };
             at(reader, word, limit)
         }
         _ => at(reader, word, Why::Expected(wanted)),
@@ -219,7 +237,11 @@ fn alternative<'a>(
 ) -> Result<(bool, bool), Stop<'a>> {
     let word = reader.next_word();
     let Some(found) = word else {
-        let why = if first { Why::NoAlternative } else { Why::Expected(wanted_result(cell)) };
+        let why = if first {
+            Why::NoAlternative
+        } else {
+            Why::Expected(wanted_result(cell))
+        };
         return Err(at(reader, None, why));
     };
     let Some(leads) = leads_away(cell, found.bytes) else {
@@ -249,11 +271,7 @@ fn after_outcome<'a>(reader: &mut Reader<'a>) -> Result<bool, Stop<'a>> {
 }
 
 /// Whether a word is `|`. It may be that none was left.
-fn bar<'a>(
-    reader: &Reader<'a>,
-    word: Option<Word<'a>>,
-    why: Why<'a>,
-) -> Result<bool, Stop<'a>> {
+fn bar<'a>(reader: &Reader<'a>, word: Option<Word<'a>>, why: Why<'a>) -> Result<bool, Stop<'a>> {
     match word {
         Some(found) if is(found.bytes, "|") => Ok(true),
         Some(_) => Err(at(reader, word, why)),

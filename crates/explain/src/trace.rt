@@ -75,7 +75,10 @@ fn say_misspelled(text: &mut Text, at: At) -> Result<(), NoMemory> {
     };
     say(text, "This line spells no event. Expected ")?;
     say(text, form(first))?;
-    say(text, ", with one space between two words, none at the ends, and a line feed.\n")
+    say(
+        text,
+        ", with one space between two words, none at the ends, and a line feed.\n",
+    )
 }
 
 /// Appends which board is unfinished, how many of its accesses are done, and its next one.
@@ -123,7 +126,11 @@ pub fn trace_reason(alloc: Global, bytes: &[u8], trace: &[u8]) -> Result<Text, N
             }
         }
         Stopped::Misspelled { number, line } => say_misspelled(&mut text, At { number, line })?,
-        Stopped::Refused { number, line, event } => {
+        Stopped::Refused {
+            number,
+            line,
+            event,
+        } => {
             say_refused(alloc, &mut text, &mut seen, At { number, line }, &event)?;
         }
     }

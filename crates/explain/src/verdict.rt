@@ -157,7 +157,10 @@ fn say_locals(
                 Some(place) => BUS_EVENTS.get(place).copied(),
                 None => None,
             };
-            let action = LocalAction { result: *result, bus };
+            let action = LocalAction {
+                result: *result,
+                bus,
+            };
             if permitted_local(state, event, &action) {
                 say_comma(text, first)?;
                 text.reserve(11)?;
@@ -188,7 +191,11 @@ fn say_answers(text: &mut Text, state: State, event: BusEvent) -> Result<(), NoM
             }
         }
     }
-    if first { say(text, " nothing, since the event cannot come to this state") } else { Ok(()) }
+    if first {
+        say(text, " nothing, since the event cannot come to this state")
+    } else {
+        Ok(())
+    }
 }
 
 /// Appends the alternatives that are permitted in a cell.
@@ -226,8 +233,14 @@ fn slip(cell: Cell, faults: &[CellFault]) -> Option<LocalEvent> {
         Cell::Answer(state, BusEvent::Flu) => (state, LocalEvent::Flush),
         _ => return None,
     };
-    let missing = CellFault::Missing { cell: Cell::Local(state, meant) };
-    if faults.contains(&missing) { Some(meant) } else { None }
+    let missing = CellFault::Missing {
+        cell: Cell::Local(state, meant),
+    };
+    if faults.contains(&missing) {
+        Some(meant)
+    } else {
+        None
+    }
 }
 
 /// Appends that an access was meant, where that is likely.
@@ -261,12 +274,7 @@ fn say_missing(
 }
 
 /// Appends why a table is refused.
-fn say_faults(
-    alloc: Global,
-    text: &mut Text,
-    bytes: &[u8],
-    table: &Table,
-) -> Result<(), NoMemory> {
+fn say_faults(alloc: Global, text: &mut Text, bytes: &[u8], table: &Table) -> Result<(), NoMemory> {
     let verdict = check(alloc, table)?;
     let name = table.name();
     if !verdict.faults().is_empty() {

@@ -7,18 +7,20 @@ pub fn name_of(wanted: Wanted) -> &'static str {
     match wanted {
         Wanted::Memory => "the line memory LINES, with which a setup begins",
         Wanted::Part => "a line of a setup",
-        Wanted::Word(_) => "this word",
+        Wanted::Word(_) => "one word",
         Wanted::Name => "a name: a letter a-z, then letters a-z, digits and -, at most 32 bytes",
         Wanted::Cell => "a line that begins with a state, or end",
         Wanted::Event => "an access or a bus event",
         Wanted::State => "the state of an answer",
         Wanted::Outcome => "a result, which is a state or one word like CH:S/E",
         Wanted::BusEventOrBar => "a bus event, | with another alternative, or the end of the line",
-        Wanted::SignalOrBar => "the signals of an answer in this order, | with another alternative, or the end of the line",
+        Wanted::SignalOrBar =>
+            "the signals of an answer in this order, | with another alternative, or the end of the line",
         Wanted::Bar => "| with another alternative, or the end of the line",
         Wanted::Shape => "the cache of the board (cached SETS WAYS, or plain)",
         Wanted::Choose => "how the board chooses",
-        Wanted::Table => "another table, or nothing more: after end only the line table NAME may follow",
+        Wanted::Table =>
+            "another table, or nothing more: after end only the line table NAME may follow",
         Wanted::LineEnd => "the end of the line",
         Wanted::TextEnd => "nothing more: this line stands after end",
     }
@@ -28,11 +30,14 @@ pub fn name_of(wanted: Wanted) -> &'static str {
 pub fn words_of(wanted: Wanted) -> &'static [&'static str] {
     match wanted {
         Wanted::Memory => &["memory"],
-        Wanted::Part => &["word", "table", "board", "read", "write", "pass", "flush", "end"],
+        Wanted::Part => &[
+            "word", "table", "board", "read", "write", "pass", "flush", "end",
+        ],
         Wanted::Word(text) => one_word(text),
         Wanted::Cell => &["M", "O", "E", "S", "I", "end"],
         Wanted::Event => &[
-            "read", "write", "pass", "flush", "rd", "rfo", "inv", "urd", "bwr", "uwr", "ubw", "pas", "flu",
+            "read", "write", "pass", "flush", "rd", "rfo", "inv", "urd", "bwr", "uwr", "ubw",
+            "pas", "flu",
         ],
         Wanted::State | Wanted::Outcome => &["M", "O", "E", "S", "I"],
         Wanted::BusEventOrBar => &["rd", "rfo", "inv", "urd", "bwr", "uwr", "ubw", "pas", "flu"],
