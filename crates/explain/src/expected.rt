@@ -8,6 +8,7 @@ use crate::refusals::say_choice;
 use crate::say::{counted, number, put, say, say_access};
 use crate::seen::{Phase, Seen};
 use crate::shown::show_line;
+use crate::spelled::say_data_line;
 use backplane::Machine;
 use bus_signals::{Access, BoardNo, LineNo};
 use class_words::state_text;
@@ -15,7 +16,7 @@ use fb_text::Text;
 use moesi_state::State;
 use no_memory::NoMemory;
 use std::alloc::Global;
-use trace_text::{Event, read_event, write_event};
+use trace_text::{Event, read_event};
 
 /// A line of a trace.
 #[derive(Clone, Copy)]
@@ -270,21 +271,6 @@ pub fn say_grant(
     )
 }
 
-/// Appends the line of the last event.
-fn write_last(events: &[Event], text: &mut Text) {
-    if let Some(event) = events.last() {
-        write_event(event, text);
-    }
-}
-
-/// A line without its line feed.
-fn without_feed(line: &[u8]) -> &[u8] {
-    match line {
-        [before @ .., b'\n'] => before,
-        _ => line,
-    }
-}
-
 /// Appends the data phase that the machine has, or that it has none.
 pub fn say_data(
     alloc: Global,
@@ -307,7 +293,8 @@ pub fn say_data(
         seen.machine.advance(board);
     }
     let mut right = Text::new(alloc);
-    right.reserve(256)?;
-    write_last(seen.machine.journal(), &mut right);
-    at.show_right(text, without_feed(right.bytes()))
+    if let Some(Event::DataPhase(carried)) = seen.machine.journal().last() {
+        say_data_line(&mut right, carried)?;
+    }
+    at.show_right(text, right.bytes())
 }

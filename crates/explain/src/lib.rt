@@ -18,6 +18,7 @@ mod seen;
 mod sentences;
 mod setup_lines;
 mod shown;
+mod spelled;
 mod tables;
 mod texts;
 mod trace;
