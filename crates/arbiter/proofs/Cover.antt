@@ -16,9 +16,12 @@ or_assoc a b c = same_from_bits (bit_or (bit_or a b) c) (bit_or a (bit_or b c)) 
   where
     same : (i : ℕ) → bit_at (bit_or (bit_or a b) c) i ≡ bit_at (bit_or a (bit_or b c)) i
     same i =
-        let left : bit_at (bit_or (bit_or a b) c) i ≡ max (max (bit_at a i) (bit_at b i)) (bit_at c i) = bit_at_or (bit_or a b) c i ∙ ap (λ x. max x (bit_at c i)) (bit_at_or a b i) in
-        let right : bit_at (bit_or a (bit_or b c)) i ≡ max (bit_at a i) (max (bit_at b i) (bit_at c i)) = bit_at_or a (bit_or b c) i ∙ ap (λ x. max (bit_at a i) x) (bit_at_or b c i) in
-        let even : max (max (bit_at a i) (bit_at b i)) (bit_at c i) ≡ max (bit_at a i) (max (bit_at b i) (bit_at c i)) = omega arith in
+        let left : bit_at (bit_or (bit_or a b) c) i ≡ max (max (bit_at a i) (bit_at b i)) (bit_at c i) =
+        bit_at_or (bit_or a b) c i ∙ ap (λ x. max x (bit_at c i)) (bit_at_or a b i) in
+        let right : bit_at (bit_or a (bit_or b c)) i ≡ max (bit_at a i) (max (bit_at b i) (bit_at c i)) =
+        bit_at_or a (bit_or b c) i ∙ ap (λ x. max (bit_at a i) x) (bit_at_or b c i) in
+        let even : max (max (bit_at a i) (bit_at b i)) (bit_at c i) ≡ max (bit_at a i) (max (bit_at b i) (bit_at c i)) =
+        omega arith in
         left ∙ even ∙ sym right
 
 pub covers_zero : (h : ℕ) → Covers h 0
@@ -50,6 +53,7 @@ pub covers_shifted : (m x h r : ℕ) → Covers h x → r < 2 ^ m → Covers (h 
 covers_shifted m x h r covers low =
     let zeros : x * 2 ^ m + 0 ≡ x * 2 ^ m = omega arith in
     let positive : 0 < 2 ^ m = omega (arith, low) in
-    let block : bit_or (x * 2 ^ m + 0) (h * 2 ^ m + r) ≡ bit_or x h * 2 ^ m + bit_or 0 r = or_block m x h 0 r positive low in
+    let block : bit_or (x * 2 ^ m + 0) (h * 2 ^ m + r) ≡ bit_or x h * 2 ^ m + bit_or 0 r =
+    or_block m x h 0 r positive low in
     let filled : bit_or x h * 2 ^ m + bit_or 0 r ≡ h * 2 ^ m + r = rw (covers, or_zero_l r) refl in
     subst (λ (y : ℕ). Covers (h * 2 ^ m + r) y) zeros (block ∙ filled)

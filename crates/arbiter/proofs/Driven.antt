@@ -4,7 +4,7 @@ use Rattle.std.specs.Prelude.{bit_or}
 use Rattle.std.specs.List.{AllByRecursion}
 use Rattle.std.proofs.lemmas.Bool.{eqb-true, eqb-false}
 use Rattle.std.proofs.lemmas.Nat.{shl-shr, shr-shr, shr_split, shr_le, pow-add, pow_pos, or_shr, or_comm, mod_below, le-div}
-use Rattle.settling.specs.Settling.{wired_lines, has_bit, driven_below}
+use Rattle.bus_model.specs.Settling.{wired_lines, has_bit, driven_below}
 use Rattle.arbiter.proofs.Cover.{Covers, covers_zero, covers_or, covers_half, covers_shifted}
 use Rattle.arbiter.proofs.Members.{In}
 
@@ -36,7 +36,9 @@ disagrees lines n k = has_bit lines k && not (has_bit n k)
 disagrees-true : (lines n k : ℕ) → disagrees lines n k ≡ true → ((lines / 2 ^ k) % 2 ≡ 1) × ((n / 2 ^ k) % 2 ≡ 0)
 disagrees-true lines n k h = go (has_bit lines k) refl (has_bit n k) refl h
   where
-    go : (a : Bool) → has_bit lines k ≡ a → (b : Bool) → has_bit n k ≡ b → (a && not b) ≡ true → ((lines / 2 ^ k) % 2 ≡ 1) × ((n / 2 ^ k) % 2 ≡ 0)
+    go :
+        (a : Bool) → has_bit lines k ≡ a → (b : Bool) → has_bit n k ≡ b → (a && not b) ≡ true
+        → ((lines / 2 ^ k) % 2 ≡ 1) × ((n / 2 ^ k) % 2 ≡ 0)
     go true e false f h =
         let other : (n / 2 ^ k) % 2 ≡ 1 → ⊥ = eqb-false ((n / 2 ^ k) % 2) 1 f in
         let low = mod_below (n / 2 ^ k) 2 (omega arith) in
@@ -57,9 +59,13 @@ disagrees-false lines n k h = go (has_bit lines k) refl (has_bit n k) refl h
     small (suc zero) h k = absurd (k refl)
     small (suc (suc r)) h k = absurd (omega arith)
 
-    go : (a : Bool) → has_bit lines k ≡ a → (b : Bool) → has_bit n k ≡ b → (a && not b) ≡ false → ((lines / 2 ^ k) % 2 ≡ 0) ⊎ ((n / 2 ^ k) % 2 ≡ 1)
+    go :
+        (a : Bool) → has_bit lines k ≡ a → (b : Bool) → has_bit n k ≡ b → (a && not b) ≡ false
+        → ((lines / 2 ^ k) % 2 ≡ 0) ⊎ ((n / 2 ^ k) % 2 ≡ 1)
     go a e true f h = inr (eqb-true ((n / 2 ^ k) % 2) 1 f)
-    go false e false f h = inl (small ((lines / 2 ^ k) % 2) (mod_below (lines / 2 ^ k) 2 (omega arith)) (eqb-false ((lines / 2 ^ k) % 2) 1 e))
+    go false e false f h =
+        inl
+        (small ((lines / 2 ^ k) % 2) (mod_below (lines / 2 ^ k) 2 (omega arith)) (eqb-false ((lines / 2 ^ k) % 2) 1 e))
     go true e false f h = cc
 
 -- ---- what one board drives
@@ -74,10 +80,13 @@ kept_from lines n (suc k) j h = go (disagrees lines n k) (kept_from lines n k j 
     cleared =
         let place : k + (j - k) ≡ j = omega (arith, h) in
         let split : (n / 2 ^ k * 2 ^ k) / 2 ^ (k + (j - k)) ≡ n / 2 ^ (k + (j - k)) =
-        sym (shr-shr (n / 2 ^ k * 2 ^ k) k (j - k)) ∙ ap (λ x. x / 2 ^ (j - k)) (shl-shr (n / 2 ^ k) k) ∙ shr-shr n k (j - k) in
+        sym (shr-shr (n / 2 ^ k * 2 ^ k) k (j - k)) ∙ ap (λ x. x / 2 ^ (j - k)) (shl-shr (n / 2 ^ k) k)
+        ∙ shr-shr n k (j - k) in
         subst (λ (i : ℕ). (n / 2 ^ k * 2 ^ k) / 2 ^ i ≡ n / 2 ^ i) place split
 
-    go : (b : Bool) → driven_below k lines n / 2 ^ j ≡ n / 2 ^ j → cond b (n / 2 ^ k * 2 ^ k) (driven_below k lines n) / 2 ^ j ≡ n / 2 ^ j
+    go :
+        (b : Bool) → driven_below k lines n / 2 ^ j ≡ n / 2 ^ j
+        → cond b (n / 2 ^ k * 2 ^ k) (driven_below k lines n) / 2 ^ j ≡ n / 2 ^ j
     go true rest = cleared
     go false rest = rest
 
@@ -102,7 +111,9 @@ module _ (lines h j : ℕ) (agree : lines / 2 ^ suc j ≡ h / 2 ^ suc j) where
   own (suc m) zero e = absurd (omega (arith, e))
   own (suc m) (suc k) e = go (disagrees lines h (suc k)) refl (own m k (omega (arith, e)))
     where
-      go : (b : Bool) → disagrees lines h (suc k) ≡ b → driven_below (suc k) lines h / 2 ^ j ≡ h / 2 ^ j → cond b (h / 2 ^ suc k * 2 ^ suc k) (driven_below (suc k) lines h) / 2 ^ j ≡ h / 2 ^ j
+      go :
+          (b : Bool) → disagrees lines h (suc k) ≡ b → driven_below (suc k) lines h / 2 ^ j ≡ h / 2 ^ j
+          → cond b (h / 2 ^ suc k * 2 ^ suc k) (driven_below (suc k) lines h) / 2 ^ j ≡ h / 2 ^ j
       go true d rest =
           let bits = disagrees-true lines h (suc k) d in
           let same = same_bit (suc k) m (omega (arith, e)) in
@@ -110,7 +121,9 @@ module _ (lines h j : ℕ) (agree : lines / 2 ^ suc j ≡ h / 2 ^ suc j) where
       go false d rest = rest
 
   -- Any number that is not above the highest is driven with no bit, from this one on, that the highest does not have.
-  part : (n : ℕ) → n ≤ h → (m k : ℕ) → k ≡ m + j → n / 2 ^ suc k ≡ h / 2 ^ suc k → Covers (h / 2 ^ j) (driven_below (suc k) lines n / 2 ^ j)
+  part :
+      (n : ℕ) → n ≤ h → (m k : ℕ) → k ≡ m + j → n / 2 ^ suc k ≡ h / 2 ^ suc k
+      → Covers (h / 2 ^ j) (driven_below (suc k) lines n / 2 ^ j)
   unfolding driven_below
   part n below zero k e top = go (disagrees lines n k)
     where
@@ -125,11 +138,13 @@ module _ (lines h j : ℕ) (agree : lines / 2 ^ suc j ≡ h / 2 ^ suc j) where
 
       go : (b : Bool) → Covers (h / 2 ^ j) (cond b (n / 2 ^ k * 2 ^ k) (driven_below k lines n) / 2 ^ j)
       go true =
-          let cleared : (n / 2 ^ k * 2 ^ k) / 2 ^ j ≡ n / 2 ^ j = subst (λ (i : ℕ). (n / 2 ^ k * 2 ^ k) / 2 ^ i ≡ n / 2 ^ i) same (shl-shr (n / 2 ^ k) k) in
+          let cleared : (n / 2 ^ k * 2 ^ k) / 2 ^ j ≡ n / 2 ^ j =
+          subst (λ (i : ℕ). (n / 2 ^ k * 2 ^ k) / 2 ^ i ≡ n / 2 ^ i) same (shl-shr (n / 2 ^ k) k) in
           subst (λ (x : ℕ). Covers (h / 2 ^ j) x) (sym cleared) covered
       go false = subst (λ (x : ℕ). Covers (h / 2 ^ j) x) (sym (kept_from lines n k j (omega (arith, same)))) covered
   part n below (suc m) zero e top = absurd (omega (arith, e))
-  part n below (suc m) (suc k) e top = go (disagrees lines n (suc k)) refl (λ even. part n below m k (omega (arith, e)) even)
+  part n below (suc m) (suc k) e top =
+      go (disagrees lines n (suc k)) refl (λ even. part n below m k (omega (arith, e)) even)
     where
       q : ℕ
       q = n / 2 ^ suc k
@@ -158,9 +173,13 @@ module _ (lines h j : ℕ) (agree : lines / 2 ^ suc j ≡ h / 2 ^ suc j) where
       whole : p * 2 ^ suc m + (h / 2 ^ j) % 2 ^ suc m ≡ h / 2 ^ j
       whole = ap (λ x. x * 2 ^ suc m + (h / 2 ^ j) % 2 ^ suc m) (sym high) ∙ shr_split (h / 2 ^ j) (suc m)
 
-      go : (b : Bool) → disagrees lines n (suc k) ≡ b → (q ≡ p → Covers (h / 2 ^ j) (driven_below (suc k) lines n / 2 ^ j)) → Covers (h / 2 ^ j) (cond b (q * 2 ^ suc k) (driven_below (suc k) lines n) / 2 ^ j)
+      go :
+          (b : Bool) → disagrees lines n (suc k) ≡ b
+          → (q ≡ p → Covers (h / 2 ^ j) (driven_below (suc k) lines n / 2 ^ j))
+          → Covers (h / 2 ^ j) (cond b (q * 2 ^ suc k) (driven_below (suc k) lines n) / 2 ^ j)
       go true d rest =
-          let covered = covers_shifted (suc m) q p ((h / 2 ^ j) % 2 ^ suc m) (covers_half q p halves less) (mod_below (h / 2 ^ j) (2 ^ suc m) (pow_pos (suc m))) in
+          let covered = covers_shifted (suc m) q p ((h / 2 ^ j) % 2 ^ suc m) (covers_half q p halves less)
+          (mod_below (h / 2 ^ j) (2 ^ suc m) (pow_pos (suc m))) in
           subst (λ (x : ℕ). Covers (h / 2 ^ j) x) (sym seen) (subst (λ (y : ℕ). Covers y (q * 2 ^ suc m)) whole covered)
       go false d rest = rest (level (disagrees-false lines n (suc k) d))
         where
@@ -171,7 +190,9 @@ module _ (lines h j : ℕ) (agree : lines / 2 ^ suc j ≡ h / 2 ^ suc j) where
 -- ---- all boards together
 
 -- What covers each value from a bit on covers what is on the lines.
-wired_covered : (j high : ℕ) (values : List ℕ) → AllByRecursion (λ v. Covers high (v / 2 ^ j)) values → Covers high (wired_lines values / 2 ^ j)
+wired_covered :
+    (j high : ℕ) (values : List ℕ) → AllByRecursion (λ v. Covers high (v / 2 ^ j)) values
+    → Covers high (wired_lines values / 2 ^ j)
 wired_covered j high [] each =
     let low : 0 / 2 ^ j ≤ 0 = shr_le 0 j in
     let none : 0 ≡ 0 / 2 ^ j = omega (arith, low) in
@@ -181,18 +202,24 @@ wired_covered j high (v ∷ values) each =
     subst (λ (x : ℕ). Covers high x) (sym (or_shr v (wired_lines values) j)) both
 
 -- And the lines have all its bits where one value has.
-pub wired_is : (j high : ℕ) (values : List ℕ) (value : ℕ) → AllByRecursion (λ v. Covers high (v / 2 ^ j)) values → In value values → value / 2 ^ j ≡ high → wired_lines values / 2 ^ j ≡ high
+pub wired_is :
+    (j high : ℕ) (values : List ℕ) (value : ℕ) → AllByRecursion (λ v. Covers high (v / 2 ^ j)) values → In value values
+    → value / 2 ^ j ≡ high → wired_lines values / 2 ^ j ≡ high
 wired_is j high [] value each there is = absurd there
 wired_is j high (v ∷ values) value each (inl e) is =
     let first : v / 2 ^ j ≡ high = ap (λ x. x / 2 ^ j) (sym e) ∙ is in
-    or_shr v (wired_lines values) j ∙ ap (λ x. bit_or x (wired_lines values / 2 ^ j)) first ∙ or_comm high (wired_lines values / 2 ^ j) ∙ wired_covered j high values each.1
+    or_shr v (wired_lines values) j ∙ ap (λ x. bit_or x (wired_lines values / 2 ^ j)) first
+    ∙ or_comm high (wired_lines values / 2 ^ j) ∙ wired_covered j high values each.1
 wired_is j high (v ∷ values) value each (inr there) is =
     or_shr v (wired_lines values) j ∙ ap (bit_or (v / 2 ^ j)) (wired_is j high values value each.1 there is) ∙ each.0
 
-pub own_driven : (lines h j : ℕ) → j ≤ 7 → lines / 2 ^ suc j ≡ h / 2 ^ suc j → driven_below 8 lines h / 2 ^ j ≡ h / 2 ^ j
+pub own_driven :
+    (lines h j : ℕ) → j ≤ 7 → lines / 2 ^ suc j ≡ h / 2 ^ suc j → driven_below 8 lines h / 2 ^ j ≡ h / 2 ^ j
 own_driven lines h j within agree = own lines h j agree (7 - j) 7 (omega (arith, within))
 
-pub part_driven : (lines h j n : ℕ) → j ≤ 7 → n ≤ h → h ≤ 255 → lines / 2 ^ suc j ≡ h / 2 ^ suc j → Covers (h / 2 ^ j) (driven_below 8 lines n / 2 ^ j)
+pub part_driven :
+    (lines h j n : ℕ) → j ≤ 7 → n ≤ h → h ≤ 255 → lines / 2 ^ suc j ≡ h / 2 ^ suc j
+    → Covers (h / 2 ^ j) (driven_below 8 lines n / 2 ^ j)
 part_driven lines h j n within below byte agree =
     let none : n / 2 ^ suc 7 ≡ h / 2 ^ suc 7 = omega (arith, below, byte) in
     part lines h j agree n below (7 - j) 7 (omega (arith, within)) none
@@ -202,20 +229,26 @@ smaller_quotient = smaller
 
 -- ---- what is driven, looked at from this bit down
 
-pub driven_stays : (bit lines n : ℕ) → 0 < bit → (has_bit lines (bit - 1) && not (has_bit n (bit - 1))) ≡ false → driven_below bit lines n ≡ driven_below (bit - 1) lines n
+pub driven_stays :
+    (bit lines n : ℕ) → 0 < bit → (has_bit lines (bit - 1) && not (has_bit n (bit - 1))) ≡ false
+    → driven_below bit lines n ≡ driven_below (bit - 1) lines n
 unfolding driven_below
 driven_stays zero lines n h same = absurd (omega arith)
 driven_stays (suc k) lines n h same =
     let back : suc k - 1 ≡ k = omega arith in
-    let here : (has_bit lines k && not (has_bit n k)) ≡ false = subst (λ (i : ℕ). (has_bit lines i && not (has_bit n i)) ≡ false) back same in
+    let here : (has_bit lines k && not (has_bit n k)) ≡ false =
+    subst (λ (i : ℕ). (has_bit lines i && not (has_bit n i)) ≡ false) back same in
     rw (back, here) refl
 
-pub driven_clears : (bit lines n : ℕ) → 0 < bit → (has_bit lines (bit - 1) && not (has_bit n (bit - 1))) ≡ true → driven_below bit lines n ≡ n / 2 ^ (bit - 1) * 2 ^ (bit - 1)
+pub driven_clears :
+    (bit lines n : ℕ) → 0 < bit → (has_bit lines (bit - 1) && not (has_bit n (bit - 1))) ≡ true
+    → driven_below bit lines n ≡ n / 2 ^ (bit - 1) * 2 ^ (bit - 1)
 unfolding driven_below
 driven_clears zero lines n h other = absurd (omega arith)
 driven_clears (suc k) lines n h other =
     let back : suc k - 1 ≡ k = omega arith in
-    let here : (has_bit lines k && not (has_bit n k)) ≡ true = subst (λ (i : ℕ). (has_bit lines i && not (has_bit n i)) ≡ true) back other in
+    let here : (has_bit lines k && not (has_bit n k)) ≡ true =
+    subst (λ (i : ℕ). (has_bit lines i && not (has_bit n i)) ≡ true) back other in
     rw (back, here) refl
 
 pub driven_whole : (bit lines n : ℕ) → bit ≤ 0 → driven_below bit lines n ≡ n

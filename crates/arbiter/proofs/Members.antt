@@ -2,7 +2,7 @@
 use Rattle.std.proofs.Common.{◌≡◌, ℕ, ◌<◌, ◌≤◌, List, [], ◌∷◌, length, map, max, refl, ap, subst, sym, arith, inl, inr, ◌⊎◌}
 use Rattle.std.specs.List.{AllByRecursion}
 use Rattle.std.proofs.lemmas.Bool.{cases_lt}
-use Rattle.settling.specs.Settling.{highest}
+use Rattle.bus_model.specs.Settling.{highest}
 
 -- A number stands in a list.
 abbrev pub In : ℕ → List ℕ → Type 0
@@ -32,6 +32,10 @@ highest-in [] some = absurd (omega arith)
 highest-in (y ∷ []) some = inl (omega arith)
 highest-in (y ∷ z ∷ zs) some = go (cases_lt y (highest (z ∷ zs))) (highest-in (z ∷ zs) (omega arith))
   where
-    go : (y < highest (z ∷ zs)) ⊎ (highest (z ∷ zs) ≤ y) → In (highest (z ∷ zs)) (z ∷ zs) → (max y (highest (z ∷ zs)) ≡ y) ⊎ In (max y (highest (z ∷ zs))) (z ∷ zs)
-    go (inl less) rest = let same : max y (highest (z ∷ zs)) ≡ highest (z ∷ zs) = omega arith in inr (subst (λ (n : ℕ). In n (z ∷ zs)) (sym same) rest)
+    go :
+        (y < highest (z ∷ zs)) ⊎ (highest (z ∷ zs) ≤ y) → In (highest (z ∷ zs)) (z ∷ zs)
+        → (max y (highest (z ∷ zs)) ≡ y) ⊎ In (max y (highest (z ∷ zs))) (z ∷ zs)
+    go (inl less) rest =
+        let same : max y (highest (z ∷ zs)) ≡ highest (z ∷ zs) = omega arith in
+        inr (subst (λ (n : ℕ). In n (z ∷ zs)) (sym same) rest)
     go (inr more) rest = inl (omega arith)

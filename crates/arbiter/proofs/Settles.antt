@@ -1,8 +1,9 @@
--- The lines of a contest settle to the highest number in at most seven rounds, and a search for the first round that changes nothing finds the one that the definition finds.
+-- The lines of a contest settle to the highest number in at most seven rounds, and a search for the first round that
+-- changes nothing finds the one that the definition finds.
 use Rattle.std.proofs.Common.{◌≡◌, ◌≢◌, ℕ, zero, suc, ◌+◌, ◌-◌, ◌/◌, ◌^◌, ◌<◌, ◌≤◌, cond, List, [], ◌∷◌, map, refl, sym, ap, ◌∙◌, subst, arith, inl, inr, ◌⊎◌}
 use Rattle.std.specs.Prelude.{All, ◌==◌}
 use Rattle.std.proofs.lemmas.Bool.{eq-eqb, ne_eqb, cases_lt}
-use Rattle.settling.specs.Settling.{wired_lines, driven, next_lines, lines_after, rounds_from, settled_rounds, settled_lines, SettlesIn, highest}
+use Rattle.bus_model.specs.Settling.{wired_lines, driven, next_lines, lines_after, rounds_from, settled_rounds, settled_lines, SettlesIn, highest}
 use Rattle.arbiter.specs.Contests.{IsNumber, IsContest}
 use Rattle.arbiter.proofs.Cover.{Covers, covers_half}
 use Rattle.arbiter.proofs.Members.{In, all-in, all-map, in-map, highest-in, highest-above}
@@ -17,17 +18,24 @@ pub first_is : (numbers : List ℕ) → wired_lines numbers ≡ lines_after numb
 unfolding lines_after
 first_is numbers = refl
 
-pub next_is : (numbers : List ℕ) (k lines : ℕ) → lines ≡ lines_after numbers k → next_lines numbers lines ≡ lines_after numbers (suc k)
+pub next_is :
+    (numbers : List ℕ) (k lines : ℕ) → lines ≡ lines_after numbers k
+    → next_lines numbers lines ≡ lines_after numbers (suc k)
 unfolding lines_after
 next_is numbers k lines e = ap (next_lines numbers) e
 
 -- Each round so far changed the lines, and so did one more.
-pub differ_more : (numbers : List ℕ) (rounds : ℕ) → ((k : ℕ) → k < rounds → lines_after numbers (suc k) ≢ lines_after numbers k) → lines_after numbers (suc rounds) ≢ lines_after numbers rounds → (k : ℕ) → k < rounds + 1 → lines_after numbers (suc k) ≢ lines_after numbers k
+pub differ_more :
+    (numbers : List ℕ) (rounds : ℕ) → ((k : ℕ) → k < rounds → lines_after numbers (suc k) ≢ lines_after numbers k)
+    → lines_after numbers (suc rounds) ≢ lines_after numbers rounds → (k : ℕ) → k < rounds + 1
+    → lines_after numbers (suc k) ≢ lines_after numbers k
 differ_more numbers rounds before last k less = go (cases_lt k rounds)
   where
     go : (k < rounds) ⊎ (rounds ≤ k) → lines_after numbers (suc k) ≢ lines_after numbers k
     go (inl h) = before k h
-    go (inr h) = let same : rounds ≡ k = omega (arith, h, less) in subst (λ (i : ℕ). lines_after numbers (suc i) ≢ lines_after numbers i) same last
+    go (inr h) =
+        let same : rounds ≡ k = omega (arith, h, less) in
+        subst (λ (i : ℕ). lines_after numbers (suc i) ≢ lines_after numbers i) same last
 
 -- What a search for the first round that changes nothing has found.
 pub record Found (numbers : List ℕ) (lines rounds : ℕ) : Type 0 where
@@ -47,22 +55,29 @@ module _ (numbers : List ℕ) (contest : IsContest numbers) where
   byte = (all_of IsNumber numbers contest.each high high_in).1
 
   -- A round makes the lines agree with the highest number in one bit more.
-  next_top : (lines j : ℕ) → j ≤ 7 → lines / 2 ^ suc j ≡ high / 2 ^ suc j → next_lines numbers lines / 2 ^ j ≡ high / 2 ^ j
+  next_top :
+      (lines j : ℕ) → j ≤ 7 → lines / 2 ^ suc j ≡ high / 2 ^ suc j → next_lines numbers lines / 2 ^ j ≡ high / 2 ^ j
   next_top lines j within agree =
       wired_is j (high / 2 ^ j) (map (λ number. driven lines number) numbers) (driven lines high)
-      (all-map (λ v. Covers (high / 2 ^ j) (v / 2 ^ j)) (λ number. driven lines number) numbers (λ n there. part_driven lines high j n within (highest-above numbers n there) byte agree))
+      (all-map (λ v. Covers (high / 2 ^ j) (v / 2 ^ j)) (λ number. driven lines number) numbers
+      (λ n there. part_driven lines high j n within (highest-above numbers n there) byte agree))
       (in-map (λ number. driven lines number) numbers high high_in)
       (own_driven lines high j within agree)
 
   first_top : wired_lines numbers / 2 ^ 7 ≡ high / 2 ^ 7
   first_top =
       wired_is 7 (high / 2 ^ 7) numbers high
-      (all-in (λ v. Covers (high / 2 ^ 7) (v / 2 ^ 7)) numbers (λ n there. let below = highest-above numbers n there in covers_half (n / 2 ^ 7) (high / 2 ^ 7) (omega (arith, below, byte)) (smaller_quotient n high 7 below)))
+      (all-in (λ v. Covers (high / 2 ^ 7) (v / 2 ^ 7)) numbers
+      (λ n there.
+      let below = highest-above numbers n there in
+      covers_half (n / 2 ^ 7) (high / 2 ^ 7) (omega (arith, below, byte)) (smaller_quotient n high 7 below)))
       high_in refl
 
   top : (k j : ℕ) → k + j ≡ 7 → lines_after numbers k / 2 ^ j ≡ high / 2 ^ j
   unfolding lines_after
-  top zero j e = let same : 7 ≡ j = omega (arith, e) in subst (λ (i : ℕ). wired_lines numbers / 2 ^ i ≡ high / 2 ^ i) same first_top
+  top zero j e =
+      let same : 7 ≡ j = omega (arith, e) in
+      subst (λ (i : ℕ). wired_lines numbers / 2 ^ i ≡ high / 2 ^ i) same first_top
   top (suc k) j e = next_top (lines_after numbers k) j (omega (arith, e)) (top k (suc j) (omega (arith, e)))
 
   at_seven : lines_after numbers 7 ≡ high
@@ -74,7 +89,9 @@ module _ (numbers : List ℕ) (contest : IsContest numbers) where
       let e = next_top (lines_after numbers 7) 0 (omega arith) (ap (λ x. x / 2 ^ 1) at_seven) in
       omega (arith, e)
 
-  still : (k r : ℕ) → lines_after numbers (suc r) ≡ lines_after numbers r → lines_after numbers (k + r) ≡ lines_after numbers r
+  still :
+      (k r : ℕ) → lines_after numbers (suc r) ≡ lines_after numbers r
+      → lines_after numbers (k + r) ≡ lines_after numbers r
   unfolding lines_after
   still zero r e = let none : zero + r ≡ r = omega arith in ap (lines_after numbers) none
   still (suc k) r e =
@@ -95,21 +112,30 @@ module _ (numbers : List ℕ) (contest : IsContest numbers) where
       go (inl less) = omega (arith, less)
       go (inr more) =
           let same : 7 ≡ r = omega (arith, more, within) in
-          absurd (other (subst (λ (i : ℕ). lines_after numbers (suc i) ≡ lines_after numbers i) same (at_eight ∙ sym at_seven)))
+          absurd (other (subst (λ (i : ℕ). lines_after numbers (suc i) ≡ lines_after numbers i) same
+          (at_eight ∙ sym at_seven)))
 
-  search_finds : (tries k r : ℕ) → k ≤ r → r < k + tries → ((i : ℕ) → i < r → lines_after numbers (suc i) ≢ lines_after numbers i) → lines_after numbers (suc r) ≡ lines_after numbers r → rounds_from tries k numbers ≡ r
+  search_finds :
+      (tries k r : ℕ) → k ≤ r → r < k + tries → ((i : ℕ) → i < r → lines_after numbers (suc i) ≢ lines_after numbers i)
+      → lines_after numbers (suc r) ≡ lines_after numbers r → rounds_from tries k numbers ≡ r
   unfolding rounds_from
   search_finds zero k r low within differ e = absurd (omega (arith, low, within))
-  search_finds (suc tries) k r low within differ e = go (cases_lt k r) (λ less. search_finds tries (suc k) r (omega (arith, less)) (omega (arith, within)) differ e)
+  search_finds (suc tries) k r low within differ e =
+      go (cases_lt k r) (λ less. search_finds tries (suc k) r (omega (arith, less)) (omega (arith, within)) differ e)
     where
-      go : (k < r) ⊎ (r ≤ k) → (k < r → rounds_from tries (suc k) numbers ≡ r) → cond (lines_after numbers (suc k) == lines_after numbers k) k (rounds_from tries (suc k) numbers) ≡ r
+      go :
+          (k < r) ⊎ (r ≤ k) → (k < r → rounds_from tries (suc k) numbers ≡ r)
+          → cond (lines_after numbers (suc k) == lines_after numbers k) k (rounds_from tries (suc k) numbers) ≡ r
       go (inl less) rest = rw (ne_eqb (lines_after numbers (suc k)) (lines_after numbers k) (differ k less)) (rest less)
       go (inr more) rest =
           let same : r ≡ k = omega (arith, low, more) in
-          let here : lines_after numbers (suc k) ≡ lines_after numbers k = subst (λ (i : ℕ). lines_after numbers (suc i) ≡ lines_after numbers i) same e in
+          let here : lines_after numbers (suc k) ≡ lines_after numbers k =
+          subst (λ (i : ℕ). lines_after numbers (suc i) ≡ lines_after numbers i) same e in
           rw (eq-eqb (lines_after numbers (suc k)) (lines_after numbers k) here) (sym same)
 
-  rounds_are : (r : ℕ) → r ≤ 7 → ((i : ℕ) → i < r → lines_after numbers (suc i) ≢ lines_after numbers i) → lines_after numbers (suc r) ≡ lines_after numbers r → settled_rounds numbers ≡ r
+  rounds_are :
+      (r : ℕ) → r ≤ 7 → ((i : ℕ) → i < r → lines_after numbers (suc i) ≢ lines_after numbers i)
+      → lines_after numbers (suc r) ≡ lines_after numbers r → settled_rounds numbers ≡ r
   rounds_are r within differ e = search_finds 8 0 r (omega arith) (omega (arith, within)) differ e
 
   pub found_settles : (lines rounds : ℕ) → Found numbers lines rounds → SettlesIn numbers lines rounds

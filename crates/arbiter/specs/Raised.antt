@@ -1,7 +1,8 @@
 -- The requests of boards for the bus.
 use Rattle.std.specs.Prelude.{ℕ, suc, ◌-◌, ◌≤◌, Bool, false, ◌&&◌, ◌==◌, List, [], ◌∷◌, Option, Some, None, length, replicate, slice_index, slice_index_or, slice_set, if◌then◌else◌}
 
--- The boards' numbers, and which of the boards have raised a request, both in order of place. There are 16 places for requests, whether they have a board or not.
+-- The boards' numbers, and which of the boards have raised a request, both in order of place. There
+-- are 16 places for requests, whether they have a board or not.
 pub record Requests : Type 0 where
   pub numbers : List ℕ
   pub raised : List Bool
@@ -49,4 +50,5 @@ nobody_raised numbers = record { numbers = numbers; raised = replicate 16 false 
 
 -- The requests after a board raised one, or lowered it.
 abbrev pub with_request : Requests → ℕ → Bool → Requests
-with_request requests board raised = record { numbers = requests.numbers; raised = slice_set requests.raised (board - 1) raised }
+with_request requests board raised =
+    record { numbers = requests.numbers; raised = slice_set requests.raised (board - 1) raised }

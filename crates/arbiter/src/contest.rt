@@ -1,7 +1,7 @@
 //! The arbitration lines while boards compete.
 
 ghost use Rattle.std.specs.Prelude.{◌≡◌, ◌+◌, ◌*◌, ◌/◌, ◌^◌, ◌<◌, ◌≤◌, not, ◌&&◌, length};
-ghost use Rattle.settling.specs.Settling.{wired_lines, has_bit, driven as drives, next_lines, settled_lines, settled_rounds, SettlesIn, highest};
+ghost use Rattle.bus_model.specs.Settling.{wired_lines, has_bit, driven as drives, next_lines, settled_lines, settled_rounds, SettlesIn, highest};
 ghost use Rattle.arbiter.specs.Contests.{IsContest};
 
 use crate::steps::Steps;

@@ -1,7 +1,7 @@
 //! The requests of the boards for the bus.
 
 ghost use Rattle.std.specs.Prelude.{◌≡◌, ◌==◌, ◌&&◌, ◌↔◌, ◌≤◌, ◌<◌, ◌+◌, ◌++◌, ◌∷◌, [], true, false, Some, None, length, take, IfSome, IfNone, IsNone, if◌then◌else◌};
-ghost use Rattle.settling.specs.Settling.{settled_lines, settled_rounds, highest};
+ghost use Rattle.bus_model.specs.Settling.{settled_lines, settled_rounds, highest};
 ghost use Rattle.arbiter.specs.Contests.{IsContest};
 ghost use Rattle.arbiter.specs.Raised.{raised_numbers, winner_from, competitors, winner_with, IsBoard, has_raised, number_at, nobody_raised, with_request};
 
@@ -18,7 +18,8 @@ pub struct Grant {
     pub settled: Settled,
 }
 
-/// The requests of 1 to 16 boards. Contracts see the boards' numbers, and which of the boards have raised a request.
+/// The requests of 1 to 16 boards. Contracts see the boards' numbers, and which of the boards have
+/// raised a request.
 #[derive(Drop)]
 pub struct Requests {
     numbers: Vec<u16>,
@@ -39,9 +40,11 @@ impl Model for Requests {
 /// Adds a number after the first ones of a list, if it competes, and tells how many there are then.
 fn add_if(competes: bool, numbers: &mut [u16; 16], count: usize, number: u16) -> usize
     requires { count < 16 }
-    ensures numbers { take result numbers.new ≡ take count numbers.old ++ (if competes then number ∷ [] else []) }
+    ensures numbers { take result numbers.new
+        ≡ take count numbers.old ++ (if competes then number ∷ [] else []) }
     ensures within { result ≤ count + 1 }
-    ensures long { length (take count numbers.old) ≡ count → length (take result numbers.new) ≡ result }
+    ensures long { length (take count numbers.old) ≡ count
+        → length (take result numbers.new) ≡ result }
 {
     if !competes {
         return count;
@@ -75,7 +78,8 @@ fn wins(competes: bool, own: u16, number: u16) -> bool
 /// The index of the first board that has raised a request and has this number.
 fn index_of(numbers: &[u16], raised: &[bool; 16], number: u16) -> Option<usize>
     requires { length numbers.now ≤ 16 }
-    ensures found { IfSome result (λ i. winner_from 1 numbers.now raised.now number ≡ Some (i + 1)) }
+    ensures found { IfSome result
+        (λ i. winner_from 1 numbers.now raised.now number ≡ Some (i + 1)) }
     ensures none { IfNone result (winner_from 1 numbers.now raised.now number ≡ None) }
     ensures within { IfSome result (λ i. i < length numbers.now) }
 {
@@ -137,16 +141,22 @@ impl Requests {
         self.raised[board.0 as usize - 1]
     }
 
-    /// The grant that the lines settle to: the competing board with the highest number. `None` where nobody competes.
+    /// The grant that the lines settle to: the competing board with the highest number. `None`
+    /// where nobody competes.
     pub fn contest(&self) -> Option<Grant>
         ensures none { IsNone result ↔ (competitors self.now ≡ []) }
         ensures board { IfSome result (λ grant. IsBoard self.now grant.winner) }
         ensures raised { IfSome result (λ grant. has_raised self.now grant.winner ≡ true) }
-        ensures highest { IfSome result (λ grant. number_at self.now grant.winner ≡ highest (competitors self.now)) }
-        ensures first { IfSome result (λ grant. winner_with self.now (highest (competitors self.now)) ≡ Some grant.winner) }
-        ensures lines { IfSome result (λ grant. grant.settled.lines ≡ settled_lines (competitors self.now)) }
-        ensures shown { IfSome result (λ grant. grant.settled.lines ≡ number_at self.now grant.winner) }
-        ensures rounds { IfSome result (λ grant. grant.settled.rounds ≡ settled_rounds (competitors self.now)) }
+        ensures highest { IfSome result
+            (λ grant. number_at self.now grant.winner ≡ highest (competitors self.now)) }
+        ensures first { IfSome result
+            (λ grant. winner_with self.now (highest (competitors self.now)) ≡ Some grant.winner) }
+        ensures lines { IfSome result
+            (λ grant. grant.settled.lines ≡ settled_lines (competitors self.now)) }
+        ensures shown { IfSome result
+            (λ grant. grant.settled.lines ≡ number_at self.now grant.winner) }
+        ensures rounds { IfSome result
+            (λ grant. grant.settled.rounds ≡ settled_rounds (competitors self.now)) }
     {
         let (numbers, count) = gather(&self.numbers, &self.raised);
         if count == 0 {
@@ -162,18 +172,25 @@ impl Requests {
         })
     }
 
-    /// Grants the bus to the competing board with the highest number, and lowers its request. `None` where nobody competes.
+    /// Grants the bus to the competing board with the highest number, and lowers its request.
+    /// `None` where nobody competes.
     pub fn grant(&mut self) -> Option<Grant>
         ensures none { IsNone result ↔ (competitors self.old ≡ []) }
         ensures same { IfNone result (self.new ≡ self.old) }
-        ensures lowered { IfSome result (λ grant. self.new ≡ with_request self.old grant.winner false) }
+        ensures lowered { IfSome result
+            (λ grant. self.new ≡ with_request self.old grant.winner false) }
         ensures board { IfSome result (λ grant. IsBoard self.old grant.winner) }
         ensures raised { IfSome result (λ grant. has_raised self.old grant.winner ≡ true) }
-        ensures highest { IfSome result (λ grant. number_at self.old grant.winner ≡ highest (competitors self.old)) }
-        ensures first { IfSome result (λ grant. winner_with self.old (highest (competitors self.old)) ≡ Some grant.winner) }
-        ensures lines { IfSome result (λ grant. grant.settled.lines ≡ settled_lines (competitors self.old)) }
-        ensures shown { IfSome result (λ grant. grant.settled.lines ≡ number_at self.old grant.winner) }
-        ensures rounds { IfSome result (λ grant. grant.settled.rounds ≡ settled_rounds (competitors self.old)) }
+        ensures highest { IfSome result
+            (λ grant. number_at self.old grant.winner ≡ highest (competitors self.old)) }
+        ensures first { IfSome result
+            (λ grant. winner_with self.old (highest (competitors self.old)) ≡ Some grant.winner) }
+        ensures lines { IfSome result
+            (λ grant. grant.settled.lines ≡ settled_lines (competitors self.old)) }
+        ensures shown { IfSome result
+            (λ grant. grant.settled.lines ≡ number_at self.old grant.winner) }
+        ensures rounds { IfSome result
+            (λ grant. grant.settled.rounds ≡ settled_rounds (competitors self.old)) }
     {
         let Some(grant) = self.contest() else {
             return None;

@@ -5,7 +5,8 @@ ghost use Rattle.std.specs.Prelude.{◌≡◌, ◌+◌, ◌<◌};
 use std::marker::Model;
 use std::sync::ledger::{Blank, Book, Ledger, Share};
 
-/// How many looks were taken, on a ledger of the caller's. Only `tick` changes it. Contracts see it as this number.
+/// How many looks were taken, on a ledger of the caller's. Only `tick` changes it. Contracts see it
+/// as this number.
 #[derive(Drop)]
 pub struct Steps<L: Ledger> {
     book: Book<L>,

@@ -2,7 +2,7 @@
 use Rattle.std.proofs.Common.{Bool, List, [], ap, arith, length, refl, sym, true, ℕ, ◌∙◌, ◌∷◌, ◌≡◌, ◌&&◌, ◌==◌}
 use Rattle.std.proofs.lemmas.Bool.{and_from, and_parts, eq-eqb, eqb-true}
 use Rattle.std.specs.Prelude.{◌↔◌}
-use Rattle.settling.specs.Settling.{highest, settled_lines, settled_rounds}
+use Rattle.bus_model.specs.Settling.{highest, settled_lines, settled_rounds}
 use Rattle.arbiter.specs.Raised.{competitors}
 use Rattle.board.specs.Rack.{setup_of}
 use Rattle.bus_model.specs.Configuration.{Configuration, Idle, is_raised}

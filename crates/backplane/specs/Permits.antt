@@ -9,7 +9,7 @@ use Rattle.bus_model.specs.Events.{Event, Answer, Transaction}
 use Rattle.bus_model.specs.Configuration.{Configuration, Row, present_access, state_at}
 use Rattle.bus_model.specs.Steps.{Can}
 use Rattle.bus_model.specs.Soundness.{Sound}
-use Rattle.settling.specs.Settling.{highest, settled_lines, settled_rounds}
+use Rattle.bus_model.specs.Settling.{highest, settled_lines, settled_rounds}
 use Rattle.backplane.specs.declared.parts.Parts.{Parts}
 use Rattle.backplane.specs.Parts.{PartsShow, IsPartOf}
 use Rattle.arbiter.specs.Raised.{competitors, has_raised}

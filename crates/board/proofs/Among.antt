@@ -25,7 +25,9 @@ or-true true = refl
 or-true false = refl
 
 same-answer : (a : SnoopAction) → same_answer a a ≡ true
-same-answer a = rw (same-number (state_number a.result), same-bool a.response.ch, same-bool a.response.di, same-bool a.response.sl) refl
+same-answer a =
+    rw (same-number (state_number a.result), same-bool a.response.ch, same-bool a.response.di, same-bool a.response.sl)
+    refl
 
 same-outcome : (o : Outcome) → same_outcome o o ≡ true
 same-outcome (Fixed s) = same-number (state_number s)
@@ -39,13 +41,15 @@ same-local : (a : LocalAction) → same_local a a ≡ true
 same-local a = rw (same-outcome a.result, same-bus a.bus) refl
 
 -- An answer at a place of a list stands in it.
-pub answer-among : (xs : List SnoopAction) (i : ℕ) (d : SnoopAction) → i < length xs → has_answer xs (get_or xs i d) ≡ true
+pub answer-among :
+    (xs : List SnoopAction) (i : ℕ) (d : SnoopAction) → i < length xs → has_answer xs (get_or xs i d) ≡ true
 answer-among [] i d l = absurd (omega arith)
 answer-among (x ∷ xs) zero d l = rw (same-answer x) refl
 answer-among (x ∷ xs) (suc i) d l = rw (answer-among xs i d (omega arith)) (or-true _)
 
 -- A local alternative at a place of a list stands in it.
-pub local-among : (xs : List LocalAction) (i : ℕ) (d : LocalAction) → i < length xs → has_local xs (get_or xs i d) ≡ true
+pub local-among :
+    (xs : List LocalAction) (i : ℕ) (d : LocalAction) → i < length xs → has_local xs (get_or xs i d) ≡ true
 local-among [] i d l = absurd (omega arith)
 local-among (x ∷ xs) zero d l = rw (same-local x) refl
 local-among (x ∷ xs) (suc i) d l = rw (local-among xs i d (omega arith)) (or-true _)

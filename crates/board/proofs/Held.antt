@@ -7,11 +7,14 @@ use Rattle.moesi_state.specs.States.{holds}
 use Rattle.board.specs.declared.frame.Frame.{Frame}
 use Rattle.board.specs.Frames.{AllHeld, frame_at, is_line}
 
-found-held-by : (t : Bool) (f : Frame) (o : Option Frame) → IsTrue (holds f.state) → IfSome o (λ x. IsTrue (holds x.state)) → IfSome (cond t (Some f) o) (λ x. IsTrue (holds x.state))
+found-held-by :
+    (t : Bool) (f : Frame) (o : Option Frame) → IsTrue (holds f.state) → IfSome o (λ x. IsTrue (holds x.state))
+    → IfSome (cond t (Some f) o) (λ x. IsTrue (holds x.state))
 found-held-by true f o h k = h
 found-held-by false f o h k = k
 
-pub found-held : (frames : List Frame) (line : ℕ) → AllHeld frames → IfSome (frame_at frames line) (λ f. IsTrue (holds f.state))
+pub found-held :
+    (frames : List Frame) (line : ℕ) → AllHeld frames → IfSome (frame_at frames line) (λ f. IsTrue (holds f.state))
 found-held [] line h = tt
 found-held (f ∷ frames) line h = found-held-by (is_line line f) f _ h.0 (found-held frames line h.1)
 
@@ -23,11 +26,15 @@ held-state S h e = cc
 held-state I h e = cc
 
 -- No frame, exactly where the state is I.
-pub none-invalid : (o : Option Frame) → IfSome o (λ f. IsTrue (holds f.state)) → IsNone o ↔ (unwrap_or (option_map (λ (f : Frame). f.state) o) I ≡ I)
+pub none-invalid :
+    (o : Option Frame) → IfSome o (λ f. IsTrue (holds f.state)) → IsNone o
+    ↔ (unwrap_or (option_map (λ (f : Frame). f.state) o) I ≡ I)
 none-invalid None h = (λ _. refl, λ _. refl)
 none-invalid (Some f) h = (λ e. cc, λ e. absurd (held-state f.state h e))
 
 -- A line has no frame, exactly where its state holds nothing.
-pub none-held : (o : Option Frame) → IfSome o (λ f. IsTrue (holds f.state)) → is_none o ≡ not (holds (unwrap_or (option_map (λ (f : Frame). f.state) o) I))
+pub none-held :
+    (o : Option Frame) → IfSome o (λ f. IsTrue (holds f.state))
+    → is_none o ≡ not (holds (unwrap_or (option_map (λ (f : Frame). f.state) o) I))
 none-held None h = refl
 none-held (Some f) h = rw h refl

@@ -31,7 +31,9 @@ pub record IsPlaced (shape : Shape) (fs : List Frame) (sets : List LineSet) (n l
   pub count : n ≡ length sets
   pub is : s ≡ get_or sets (line % n) s
 
-at : (shape : Shape) (fs : List Frame) (sets : List LineSet) (n line : ℕ) (s : LineSet) → IsPlaced shape fs sets n line s → slice_get sets (line % n) ≡ Some s
+at :
+    (shape : Shape) (fs : List Frame) (sets : List LineSet) (n line : ℕ) (s : LineSet) → IsPlaced shape fs sets n line s
+    → slice_get sets (line % n) ≡ Some s
 at shape fs sets n line s h =
     let some = some-sets shape h.shape_fits in
     let m = h.many in
@@ -40,29 +42,40 @@ at shape fs sets n line s h =
     let inside : line % n < length sets = omega arith in
     get-is sets (line % n) s inside h.is
 
-own : (shape : Shape) (fs : List Frame) (sets : List LineSet) (n line : ℕ) (s : LineSet) → IsPlaced shape fs sets n line s
+own :
+    (shape : Shape) (fs : List Frame) (sets : List LineSet) (n line : ℕ) (s : LineSet) → IsPlaced shape fs sets n line s
     → s.frames ≡ filter (is_of_set n (line % n)) fs
-own shape fs sets n line s h = (h.kept.each (line % n) s (at shape fs sets n line s h)).own ∙ ap (λ (m : ℕ). filter (is_of_set m (line % n)) fs) (sym h.count)
+own shape fs sets n line s h =
+    (h.kept.each (line % n) s (at shape fs sets n line s h)).own
+    ∙ ap (λ (m : ℕ). filter (is_of_set m (line % n)) fs) (sym h.count)
 
 -- A line is looked up in its set.
-pub placed-frame : (shape : Shape) (fs : List Frame) (sets : List LineSet) (n line : ℕ) (s : LineSet) → IsPlaced shape fs sets n line s
+pub placed-frame :
+    (shape : Shape) (fs : List Frame) (sets : List LineSet) (n line : ℕ) (s : LineSet) → IsPlaced shape fs sets n line s
     → frame_at s.frames line ≡ frame_at fs line
-placed-frame shape fs sets n line s h = set-frame (way_count shape) fs sets (line % n) line s h.kept (ap (λ (m : ℕ). line % m) h.count) (at shape fs sets n line s h)
+placed-frame shape fs sets n line s h =
+    set-frame (way_count shape) fs sets (line % n) line s h.kept (ap (λ (m : ℕ). line % m) h.count)
+    (at shape fs sets n line s h)
 
 -- A set has as many frames as the board has in it, and the oldest of these.
-pub placed-count : (shape : Shape) (fs : List Frame) (sets : List LineSet) (n line : ℕ) (s : LineSet) → IsPlaced shape fs sets n line s
+pub placed-count :
+    (shape : Shape) (fs : List Frame) (sets : List LineSet) (n line : ℕ) (s : LineSet) → IsPlaced shape fs sets n line s
     → length s.frames ≡ count_where (is_in_set_of n line) fs
-placed-count shape fs sets n line s h = ap (λ (r : List Frame). length r) (own shape fs sets n line s h) ∙ sym (count_where-filter (is_in_set_of n line) fs)
+placed-count shape fs sets n line s h =
+    ap (λ (r : List Frame). length r) (own shape fs sets n line s h) ∙ sym (count_where-filter (is_in_set_of n line) fs)
 
-pub placed-first : (shape : Shape) (fs : List Frame) (sets : List LineSet) (n line : ℕ) (s : LineSet) → IsPlaced shape fs sets n line s
+pub placed-first :
+    (shape : Shape) (fs : List Frame) (sets : List LineSet) (n line : ℕ) (s : LineSet) → IsPlaced shape fs sets n line s
     → first s.frames ≡ find (is_in_set_of n line) fs
-placed-first shape fs sets n line s h = ap first (own shape fs sets n line s h) ∙ sym (find-first (is_in_set_of n line) fs)
+placed-first shape fs sets n line s h =
+    ap first (own shape fs sets n line s h) ∙ sym (find-first (is_in_set_of n line) fs)
 
 -- A set that is not full has room for one more frame.
 not-full : (ways count : ℕ) → nat_le ways count ≡ false → count < ways
 not-full ways count h = grind (arith, nat_tests)
 
-pub placed-room : (shape : Shape) (fs : List Frame) (sets : List LineSet) (n line : ℕ) (s : LineSet) → IsPlaced shape fs sets n line s
+pub placed-room :
+    (shape : Shape) (fs : List Frame) (sets : List LineSet) (n line : ℕ) (s : LineSet) → IsPlaced shape fs sets n line s
     → IsFalse (set_is_full shape fs line) → length s.frames < s.room
 placed-room Plain fs sets n line s h full = cc
 placed-room (Cached many ways) fs sets n line s h full =
@@ -73,48 +86,70 @@ placed-room (Cached many ways) fs sets n line s h full =
     omega arith
 
 -- A state that a line's frame gets in its set, it gets among all frames.
-pub placed-with : (shape : Shape) (fs : List Frame) (sets : List LineSet) (n line fills : ℕ) (state : State) (s s' : LineSet) → IsPlaced shape fs sets n line s
+pub placed-with :
+    (shape : Shape) (fs : List Frame) (sets : List LineSet) (n line fills : ℕ) (state : State) (s s' : LineSet)
+    → IsPlaced shape fs sets n line s
     → fs ≡ in_order 0 fills (all_in sets) → s' ≡ record { frames = frames_with s.frames line state; room = s.room }
     → in_order 0 fills (all_in (set sets (line % n) s')) ≡ frames_with fs line state
 placed-with shape fs sets n line fills state s s' h view e =
-    ap (in_order 0 fills) (all-with sets (line % n) s s' line state (at shape fs sets n line s h) (ap (λ (x : LineSet). x.frames) e)
+    ap (in_order 0 fills)
+    (all-with sets (line % n) s s' line state (at shape fs sets n line s h) (ap (λ (x : LineSet). x.frames) e)
     (kept-stable (way_count shape) fs sets (line % n) line state h.kept (ap (λ (m : ℕ). line % m) h.count)))
     ∙ order-with 0 fills (all_in sets) line state
     ∙ ap (λ (r : List Frame). frames_with r line state) (sym view)
 
-pub placed-kept : (shape : Shape) (fs : List Frame) (sets : List LineSet) (n line : ℕ) (state : State) (s s' : LineSet) → IsPlaced shape fs sets n line s
-    → s' ≡ record { frames = frames_with s.frames line state; room = s.room } → SetsAreKept (way_count shape) (frames_with fs line state) (set sets (line % n) s')
+pub placed-kept :
+    (shape : Shape) (fs : List Frame) (sets : List LineSet) (n line : ℕ) (state : State) (s s' : LineSet)
+    → IsPlaced shape fs sets n line s
+    → s' ≡ record { frames = frames_with s.frames line state; room = s.room }
+    → SetsAreKept (way_count shape) (frames_with fs line state) (set sets (line % n) s')
 placed-kept shape fs sets n line state s s' h e =
-    kept-with (way_count shape) fs sets (line % n) line state s s' h.kept (ap (λ (m : ℕ). line % m) h.count) (at shape fs sets n line s h)
+    kept-with (way_count shape) fs sets (line % n) line state s s' h.kept (ap (λ (m : ℕ). line % m) h.count)
+    (at shape fs sets n line s h)
     (ap (λ (x : LineSet). x.frames) e) (ap (λ (x : LineSet). x.room) e)
 
-pub placed-out : (shape : Shape) (fs : List Frame) (sets : List LineSet) (n line : ℕ) (s : LineSet) (pool : Pool) → IsPlaced shape fs sets n line s
+pub placed-out :
+    (shape : Shape) (fs : List Frame) (sets : List LineSet) (n line : ℕ) (s : LineSet) (pool : Pool)
+    → IsPlaced shape fs sets n line s
     → AreOut pool fs → AreOut pool s.frames
-placed-out shape fs sets n line s pool h out = rw (own shape fs sets n line s h) (among-out pool (is_of_set n (line % n)) fs out)
+placed-out shape fs sets n line s pool h out =
+    rw (own shape fs sets n line s h) (among-out pool (is_of_set n (line % n)) fs out)
 
-pub placed-after : (shape : Shape) (fs : List Frame) (sets : List LineSet) (n line : ℕ) (s : LineSet) (state : State) (words : List ℕ → List ℕ) (pool : Pool)
+pub placed-after :
+    (shape : Shape) (fs : List Frame) (sets : List LineSet) (n line : ℕ) (s : LineSet) (state : State)
+    (words : List ℕ → List ℕ) (pool : Pool)
     → IsPlaced shape fs sets n line s → pool_after s.frames line state words pool ≡ pool_after fs line state words pool
 placed-after shape fs sets n line s state words pool h =
     ap (λ (r : List Frame). pool_after r line state words pool) (own shape fs sets n line s h)
     ∙ among-after (is_of_set n (line % n)) fs line state words pool (λ f t. line-is-own n line f t)
 
 -- A frame that is filled into the set of its line stands last of all frames.
-pub placed-push : (shape : Shape) (fs : List Frame) (sets : List LineSet) (n fills : ℕ) (f : Frame) (s s' : LineSet) → IsPlaced shape fs sets n f.line s
-    → fs ≡ in_order 0 fills (all_in sets) → FillsBelow fills fs → f.fill ≡ fills → s' ≡ record { frames = s.frames ++ f ∷ []; room = s.room }
+pub placed-push :
+    (shape : Shape) (fs : List Frame) (sets : List LineSet) (n fills : ℕ) (f : Frame) (s s' : LineSet)
+    → IsPlaced shape fs sets n f.line s
+    → fs ≡ in_order 0 fills (all_in sets) → FillsBelow fills fs → f.fill ≡ fills
+    → s' ≡ record { frames = s.frames ++ f ∷ []; room = s.room }
     → in_order 0 (fills + 1) (all_in (set sets (f.line % n) s')) ≡ fs ++ f ∷ []
 placed-push shape fs sets n fills f s s' h view below fill e =
     rw add-one
-    (order-push fills sets (f.line % n) s s' f (at shape fs sets n f.line s h) (ap (λ (x : LineSet). x.frames) e) fill (kept-below (way_count shape) fills fs sets h.kept below)
+    (order-push fills sets (f.line % n) s s' f (at shape fs sets n f.line s h) (ap (λ (x : LineSet). x.frames) e) fill
+    (kept-below (way_count shape) fills fs sets h.kept below)
     ∙ ap (λ (r : List Frame). r ++ f ∷ []) (sym view))
 
-pub pushed-kept : (shape : Shape) (fs : List Frame) (sets : List LineSet) (n : ℕ) (f : Frame) (s s' : LineSet) → IsPlaced shape fs sets n f.line s
-    → s' ≡ record { frames = s.frames ++ f ∷ []; room = s.room } → SetsAreKept (way_count shape) (fs ++ f ∷ []) (set sets (f.line % n) s')
+pub pushed-kept :
+    (shape : Shape) (fs : List Frame) (sets : List LineSet) (n : ℕ) (f : Frame) (s s' : LineSet)
+    → IsPlaced shape fs sets n f.line s
+    → s' ≡ record { frames = s.frames ++ f ∷ []; room = s.room }
+    → SetsAreKept (way_count shape) (fs ++ f ∷ []) (set sets (f.line % n) s')
 pushed-kept shape fs sets n f s s' h e =
-    kept-push (way_count shape) fs sets (f.line % n) f s s' h.kept (ap (λ (m : ℕ). f.line % m) h.count) (at shape fs sets n f.line s h)
+    kept-push (way_count shape) fs sets (f.line % n) f s s' h.kept (ap (λ (m : ℕ). f.line % m) h.count)
+    (at shape fs sets n f.line s h)
     (ap (λ (x : LineSet). x.frames) e) (ap (λ (x : LineSet). x.room) e)
 
 -- The frame that must go before a line is filled.
-open-line : (shape : Shape) (fs : List Frame) (sets : List LineSet) (n line : ℕ) (s : LineSet) (o : Option Frame) → IsPlaced shape fs sets n line s → AllHeld fs
+open-line :
+    (shape : Shape) (fs : List Frame) (sets : List LineSet) (n line : ℕ) (s : LineSet) (o : Option Frame)
+    → IsPlaced shape fs sets n line s → AllHeld fs
     → o ≡ frame_at s.frames line → is_none o ≡ not (holds (frame_state fs line))
 open-line shape fs sets n line s o h held e =
     ap is_none (e ∙ placed-frame shape fs sets n line s h) ∙ none-held (frame_at fs line) (found-held fs line held)
@@ -122,17 +157,22 @@ open-line shape fs sets n line s o h held e =
 victim-by : (a b : Bool) (o : Option Frame) → a ≡ true → b ≡ true → cond (a && b) o None ≡ o
 victim-by a b o e h = rw (e, h) refl
 
-pub victim-there : (many ways : ℕ) (fs : List Frame) (sets : List LineSet) (n line : ℕ) (s : LineSet) (o : Option Frame) → IsPlaced (Cached many ways) fs sets n line s → AllHeld fs
-    → o ≡ frame_at s.frames line → is_none o ≡ true → ways ≤ length s.frames → first s.frames ≡ victim_frame (Cached many ways) fs line
+pub victim-there :
+    (many ways : ℕ) (fs : List Frame) (sets : List LineSet) (n line : ℕ) (s : LineSet) (o : Option Frame)
+    → IsPlaced (Cached many ways) fs sets n line s → AllHeld fs
+    → o ≡ frame_at s.frames line → is_none o ≡ true → ways ≤ length s.frames
+    → first s.frames ≡ victim_frame (Cached many ways) fs line
 victim-there many ways fs sets n line s o h held e none full =
     let shape : Shape = Cached many ways in
     let same : n ≡ many = h.count ∙ h.many in
-    let count : length s.frames ≡ count_where (is_in_set_of many line) fs = placed-count shape fs sets n line s h ∙ ap (λ (k : ℕ). count_where (is_in_set_of k line) fs) same in
+    let count : length s.frames ≡ count_where (is_in_set_of many line) fs =
+    placed-count shape fs sets n line s h ∙ ap (λ (k : ℕ). count_where (is_in_set_of k line) fs) same in
     let test : nat_le ways (count_where (is_in_set_of many line) fs) ≡ true = grind (arith, nat_tests) in
     let free : not (holds (frame_state fs line)) ≡ true = sym (open-line shape fs sets n line s o h held e) ∙ none in
     placed-first shape fs sets n line s h
     ∙ ap (λ (k : ℕ). find (is_in_set_of k line) fs) same
-    ∙ sym (victim-by (not (holds (frame_state fs line))) (nat_le ways (count_where (is_in_set_of many line) fs)) (find (is_in_set_of many line) fs) free test)
+    ∙ sym (victim-by (not (holds (frame_state fs line))) (nat_le ways (count_where (is_in_set_of many line) fs))
+    (find (is_in_set_of many line) fs) free test)
 
 none-left : (b : Bool) (o : Option Frame) (a : Bool) → a ≡ false → None ≡ cond (a && b) o None
 none-left b o a e = rw e refl
@@ -141,19 +181,27 @@ none-right : (a : Bool) (o : Option Frame) (b : Bool) → b ≡ false → None �
 none-right true o b e = rw e refl
 none-right false o b e = refl
 
-pub victim-held : (many ways : ℕ) (fs : List Frame) (sets : List LineSet) (n line : ℕ) (s : LineSet) (o : Option Frame) → IsPlaced (Cached many ways) fs sets n line s → AllHeld fs
+pub victim-held :
+    (many ways : ℕ) (fs : List Frame) (sets : List LineSet) (n line : ℕ) (s : LineSet) (o : Option Frame)
+    → IsPlaced (Cached many ways) fs sets n line s → AllHeld fs
     → o ≡ frame_at s.frames line → is_none o ≡ false → None ≡ victim_frame (Cached many ways) fs line
 victim-held many ways fs sets n line s o h held e some =
-    none-left (nat_le ways (count_where (is_in_set_of many line) fs)) (find (is_in_set_of many line) fs) (not (holds (frame_state fs line)))
+    none-left (nat_le ways (count_where (is_in_set_of many line) fs)) (find (is_in_set_of many line) fs)
+    (not (holds (frame_state fs line)))
     (sym (open-line (Cached many ways) fs sets n line s o h held e) ∙ some)
 
-pub victim-room : (many ways : ℕ) (fs : List Frame) (sets : List LineSet) (n line : ℕ) (s : LineSet) → IsPlaced (Cached many ways) fs sets n line s
+pub victim-room :
+    (many ways : ℕ) (fs : List Frame) (sets : List LineSet) (n line : ℕ) (s : LineSet)
+    → IsPlaced (Cached many ways) fs sets n line s
     → length s.frames < ways → None ≡ victim_frame (Cached many ways) fs line
 victim-room many ways fs sets n line s h room =
     let same : n ≡ many = h.count ∙ h.many in
-    let count : length s.frames ≡ count_where (is_in_set_of many line) fs = placed-count (Cached many ways) fs sets n line s h ∙ ap (λ (k : ℕ). count_where (is_in_set_of k line) fs) same in
+    let count : length s.frames ≡ count_where (is_in_set_of many line) fs =
+    placed-count (Cached many ways) fs sets n line s h
+    ∙ ap (λ (k : ℕ). count_where (is_in_set_of k line) fs) same in
     let test : nat_le ways (count_where (is_in_set_of many line) fs) ≡ false = grind (arith, nat_tests) in
-    none-right (not (holds (frame_state fs line))) (find (is_in_set_of many line) fs) (nat_le ways (count_where (is_in_set_of many line) fs)) test
+    none-right (not (holds (frame_state fs line))) (find (is_in_set_of many line) fs)
+    (nat_le ways (count_where (is_in_set_of many line) fs)) test
 
 pub none-of : (o : Option Frame) (b t : Bool) → is_some o ≡ not b → b ≡ t → is_none o ≡ t
 none-of None true t e h = h

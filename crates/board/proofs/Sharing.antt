@@ -18,11 +18,14 @@ numbers_of fs = map (λ (f : Frame). f.number) fs
 abbrev words_in : List Row → List (List ℕ)
 words_in rows = map (λ (row : Row). row.words) rows
 
-own-words : (pool : Pool) (k : ℕ) (fs : List Frame) → words_in (map (row_of pool k) fs) ≡ map (words_of pool) (numbers_of fs)
+own-words :
+    (pool : Pool) (k : ℕ) (fs : List Frame) → words_in (map (row_of pool k) fs) ≡ map (words_of pool) (numbers_of fs)
 own-words pool k [] = refl
 own-words pool k (f ∷ fs) = ap (λ (ws : List (List ℕ)). words_of pool f.number ∷ ws) (own-words pool k fs)
 
-all-words : (pool : Pool) (k : ℕ) (ss : List Station) → words_in (rows_from pool k ss) ≡ map (words_of pool) (numbers_of (frames_of ss))
+all-words :
+    (pool : Pool) (k : ℕ) (ss : List Station)
+    → words_in (rows_from pool k ss) ≡ map (words_of pool) (numbers_of (frames_of ss))
 all-words pool k [] = refl
 all-words pool k (s ∷ ss) =
     map-append (λ (row : Row). row.words) (map (row_of pool k) s.frames) (rows_from pool (suc k) ss)
@@ -36,7 +39,9 @@ once-in [] i d h = absurd (omega arith)
 once-in (f ∷ fs) zero d h = let c = count-own f fs f.number refl in omega arith
 once-in (f ∷ fs) (suc i) d h = let r = once-in fs i d (omega arith) in omega arith
 
-twice-in : (fs : List Frame) (i j d : ℕ) → i < j → j < length (numbers_of fs) → get_or (numbers_of fs) i d ≡ get_or (numbers_of fs) j d
+twice-in :
+    (fs : List Frame) (i j d : ℕ) → i < j → j < length (numbers_of fs)
+    → get_or (numbers_of fs) i d ≡ get_or (numbers_of fs) j d
     → 2 ≤ number_count (get_or (numbers_of fs) j d) fs
 twice-in [] i j d l h e = absurd (omega arith)
 twice-in (f ∷ fs) i zero d l h e = absurd (omega arith)
@@ -46,7 +51,9 @@ twice-in (f ∷ fs) zero (suc j) d l h e =
     omega arith
 twice-in (f ∷ fs) (suc i) (suc j) d l h e = let r = twice-in fs i j d (omega arith) (omega arith) e in omega arith
 
-found-in-by : (f : Frame) (fs : List Frame) (n : ℕ) → 1 ≤ number_count n (f ∷ fs) → (1 ≤ number_count n fs → Contains (numbers_of fs) n)
+found-in-by :
+    (f : Frame) (fs : List Frame) (n : ℕ) → 1 ≤ number_count n (f ∷ fs)
+    → (1 ≤ number_count n fs → Contains (numbers_of fs) n)
     → (n ≡ f.number) ⊎ (n ≡ f.number → ⊥) → Contains (numbers_of (f ∷ fs)) n
 found-in-by f fs n h rest (inl e) = (0, omega arith, sym e)
 found-in-by f fs n h rest (inr e) =
@@ -59,7 +66,9 @@ found-in : (fs : List Frame) (n : ℕ) → 1 ≤ number_count n fs → Contains 
 found-in [] n h = absurd (omega arith)
 found-in (f ∷ fs) n h = found-in-by f fs n h (found-in fs n) (same-or-other n f.number)
 
-pub rows-have : (pool : Pool) (ss : List Station) (ways : ℕ) → FramesHold pool (frames_of ss) ways → RowsHaveFrames pool (rows_from pool 1 ss)
+pub rows-have :
+    (pool : Pool) (ss : List Station) (ways : ℕ) → FramesHold pool (frames_of ss) ways
+    → RowsHaveFrames pool (rows_from pool 1 ss)
 rows-have pool ss ways h = record {
   numbers = numbers_of (frames_of ss);
   words = all-words pool 1 ss;
@@ -75,9 +84,12 @@ rows-have pool ss ways h = record {
 }
 
 -- Where a rack has a row and its pool one frame, this frame is out.
-pub one-frame : (pool : Pool) (rows : List Row) → RowsHaveFrames pool rows → 1 ≤ length rows → length pool.out ≡ 1 → IsOut pool 0
+pub one-frame :
+    (pool : Pool) (rows : List Row) → RowsHaveFrames pool rows → 1 ≤ length rows → length pool.out ≡ 1 → IsOut pool 0
 one-frame pool rows h some one =
-    let long : length rows ≡ length h.numbers = sym (length-map rows (λ (row : Row). row.words)) ∙ ap (λ (ws : List (List ℕ)). length ws) h.words ∙ length-map h.numbers (words_of pool) in
+    let long : length rows ≡ length h.numbers =
+    sym (length-map rows (λ (row : Row). row.words)) ∙ ap (λ (ws : List (List ℕ)). length ws) h.words
+    ∙ length-map h.numbers (words_of pool) in
     let out = h.out 0 0 (omega arith) in
     let i = out.inside in
     let zero : get_or h.numbers 0 0 ≡ 0 = omega arith in

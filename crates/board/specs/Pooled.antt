@@ -24,7 +24,9 @@ times_out pool number = cond (slice_index_or pool.out number false) 1 0
 pub record AreOut (pool : Pool) (frames : List Frame) : Type 0 where
   pub once : (number : ℕ) → number_count number frames ≤ times_out pool number
 
--- The rows of a rack and the pool of its frames: each row has a frame that is out, no two rows have one frame, each frame that is out is the frame of a row, and the words of a row are the pool's words of its frame.
+-- The rows of a rack and the pool of its frames: each row has a frame that is out, no two rows have
+-- one frame, each frame that is out is the frame of a row, and the words of a row are the pool's
+-- words of its frame.
 pub record RowsHaveFrames (pool : Pool) (rows : List Row) : Type 0 where
   pub numbers : List ℕ
   pub words : map (λ (row : Row). row.words) rows ≡ map (words_of pool) numbers
@@ -32,7 +34,9 @@ pub record RowsHaveFrames (pool : Pool) (rows : List Row) : Type 0 where
   pub apart : AllPairs (λ a b. a ≡ b → ⊥) numbers
   pub used : (number : ℕ) → IsOut pool number → Contains numbers number
 
--- The pool and the frames of all boards, which is kept by every call: a frame that is out is the frame of exactly one row, a frame that is free is that of none, and there are as many frames as all sets have ways.
+-- The pool and the frames of all boards, which is kept by every call: a frame that is out is the
+-- frame of exactly one row, a frame that is free is that of none, and there are as many frames as
+-- all sets have ways.
 pub record FramesHold (pool : Pool) (frames : List Frame) (ways : ℕ) : Type 0 where
   pub once : (number : ℕ) → number_count number frames ≡ times_out pool number
   pub counted : count_out pool.out ≡ length frames
@@ -43,13 +47,17 @@ pub record FramesHold (pool : Pool) (frames : List Frame) (ways : ℕ) : Type 0 
 abbrev pub with_changed : ℕ → (List ℕ → List ℕ) → List Frame → Pool → Pool
 with_changed line words [] pool = pool
 with_changed line words (f ∷ fs) pool =
-    with_changed line words fs (if is_line line f then with_words pool f.number (words (words_of pool f.number)) else pool)
+    with_changed line words fs
+    (if is_line line f then with_words pool f.number (words (words_of pool f.number)) else pool)
 
 -- The pool after a line's frames came back.
 abbrev pub with_given : ℕ → List Frame → Pool → Pool
 with_given line [] pool = pool
-with_given line (f ∷ fs) pool = with_given line fs (if is_line line f then with_out pool f.number false else pool)
+with_given line (f ∷ fs) pool =
+    with_given line fs (if is_line line f then with_out pool f.number false else pool)
 
--- The pool after a line's frames got a state and changed words: they stay out with the words, or in the state I they come back.
+-- The pool after a line's frames got a state and changed words: they stay out with the words, or in
+-- the state I they come back.
 abbrev pub pool_after : List Frame → ℕ → State → (List ℕ → List ℕ) → Pool → Pool
-pool_after frames line state words pool = if holds state then with_changed line words frames pool else with_given line frames pool
+pool_after frames line state words pool =
+    if holds state then with_changed line words frames pool else with_given line frames pool

@@ -1,4 +1,5 @@
--- The sets of one board, each a list of frames in order of fill, and the frames of all sets in order of fill.
+-- The sets of one board, each a list of frames in order of fill, and the frames of all sets in
+-- order of fill.
 use Rattle.std.specs.Prelude.{◌≡◌, ℕ, zero, suc, ◌%◌, ◌≤◌, Bool, ◌==◌, List, [], ◌∷◌, ◌++◌, Option, Some, None, filter, length, slice_get}
 use Rattle.bus_model.specs.Setup.{Shape, Plain, Cached}
 use Rattle.board.specs.declared.frame.Frame.{Frame}
@@ -36,7 +37,8 @@ all_in (s ∷ rest) = s.frames ++ all_in rest
 abbrev pub has_fill : ℕ → Frame → Bool
 has_fill fill f = f.fill == fill
 
--- The frames in order of fill: those with the first fill number, those with the next, and so on for this many numbers.
+-- The frames in order of fill: those with the first fill number, those with the next, and so on for
+-- this many numbers.
 abbrev pub in_order : ℕ → ℕ → List Frame → List Frame
 in_order fill zero frames = []
 in_order fill (suc n) frames = filter (has_fill fill) frames ++ in_order (suc fill) n frames
@@ -48,7 +50,9 @@ pub record SetIsKept (sets number ways : ℕ) (frames : List Frame) (set : LineS
 
 -- Each set of a board has those of its frames that belong to it.
 pub record SetsAreKept (ways : ℕ) (frames : List Frame) (sets : List LineSet) : Type 0 where
-  pub each : (number : ℕ) (set : LineSet) → slice_get sets number ≡ Some set → SetIsKept (length sets) number ways frames set
+  pub each :
+      (number : ℕ) (set : LineSet) → slice_get sets number ≡ Some set
+      → SetIsKept (length sets) number ways frames set
 
 -- Each set is empty and has room for this many frames.
 abbrev pub AllEmpty : ℕ → List LineSet → Type 0

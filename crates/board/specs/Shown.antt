@@ -1,4 +1,5 @@
--- The part of a configuration that the rack shows: its rows, and how many rows each board has filled and draws it has spent.
+-- The part of a configuration that the rack shows: its rows, and how many rows each board has
+-- filled and draws it has spent.
 use Rattle.std.specs.Prelude.{◌≡◌, map}
 use Rattle.bus_model.specs.Configuration.{Configuration, Progress}
 use Rattle.board.specs.Rack.{Rack, Counts}

@@ -85,11 +85,14 @@ impl LineSet {
         self.frames.first().copied()
     }
 
-    /// Gives the frame of a line a state and changes its words. In the state I it goes back to the pool.
+    /// Gives the frame of a line a state and changes its words. In the state I it goes back to the
+    /// pool.
     pub fn change(&mut self, pool: &mut LinePool, line: u32, state: State, how: Change)
         requires { AreOut pool.old self.old.frames }
-        ensures set { self.new ≡ record { frames = frames_with self.old.frames line state; room = self.old.room } }
-        ensures pool { pool.new ≡ pool_after self.old.frames line state (changed_words how) pool.old }
+        ensures set { self.new
+            ≡ record { frames = frames_with self.old.frames line state; room = self.old.room } }
+        ensures pool { pool.new
+            ≡ pool_after self.old.frames line state (changed_words how) pool.old }
     {
         change_or_give(&self.frames, pool, line, state, how);
         set_or_remove(&mut self.frames, line, state);
@@ -98,7 +101,8 @@ impl LineSet {
     /// Adds a frame.
     pub fn push(&mut self, frame: Frame)
         requires { length self.old.frames < self.old.room }
-        ensures { self.new ≡ record { frames = self.old.frames ++ frame ∷ []; room = self.old.room } }
+        ensures { self.new
+            ≡ record { frames = self.old.frames ++ frame ∷ []; room = self.old.room } }
     {
         self.frames.push_reserved(frame);
     }

@@ -1,4 +1,5 @@
-//! A board that keeps its rows in one list, words and all. The rack with its pool is compared with it.
+//! A board that keeps its rows in one list, words and all. The rack with its pool is compared with
+//! it.
 
 use crate::Change;
 use moesi_state::State;

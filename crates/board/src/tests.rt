@@ -1,4 +1,5 @@
-//! One row through every call of the rack, rows of two boards against lists of rows, and the draws of each chooser.
+//! One row through every call of the rack, rows of two boards against lists of rows, and the draws
+//! of each chooser.
 
 ghost use Rattle.std.specs.Prelude.{◌≡◌, ◌<◌, [], ◌∷◌, length, IfOk};
 ghost use Rattle.board.specs.Rack.{IsBoard, no_counts};
@@ -18,7 +19,8 @@ use table_check::{Accepted, BoardSpec, Choose, Shape, accept};
 
 /// A board with one frame.
 fn small(number: u16, choose: Choose) -> BoardSpec
-    ensures { result ≡ record { number = number; table = 0; shape = Shape.Cached 1 1; choose = choose } }
+    ensures { result
+        ≡ record { number = number; table = 0; shape = Shape.Cached 1 1; choose = choose } }
 {
     BoardSpec {
         number,
@@ -30,7 +32,13 @@ fn small(number: u16, choose: Choose) -> BoardSpec
 
 /// A board with this many sets and ways.
 fn cached(number: u16, sets: u16, ways: u16) -> BoardSpec
-    ensures { result ≡ record { number = number; table = 0; shape = Shape.Cached sets ways; choose = Choose.First } }
+    ensures { result
+        ≡ record {
+          number = number;
+          table = 0;
+          shape = Shape.Cached sets ways;
+          choose = Choose.First;
+        } }
 {
     BoardSpec {
         number,
@@ -136,7 +144,20 @@ fn tables(alloc: Global) -> Result<Vec<Accepted>, Fail>
 
 /// A rack of two boards with one frame each, the second with a seeded chooser.
 fn rack(alloc: Global) -> Result<Rack, Fail>
-    ensures { IfOk result (λ rack. rack.specs ≡ record { number = 10; table = 0; shape = Shape.Cached 1 1; choose = Choose.Round } ∷ record { number = 9; table = 0; shape = Shape.Cached 1 1; choose = Choose.Seed 1 } ∷ [] × rack.rows ≡ []) }
+    ensures { IfOk result (λ rack.
+        rack.specs
+        ≡ record {
+          number = 10;
+          table = 0;
+          shape = Shape.Cached 1 1;
+          choose = Choose.Round;
+        }
+        ∷ record {
+          number = 9;
+          table = 0;
+          shape = Shape.Cached 1 1;
+          choose = Choose.Seed 1;
+        } ∷ [] × rack.rows ≡ []) }
 {
     let tables = tables(alloc)?;
     let boards = Vec::from_array(alloc, [small(10, Choose::Round), small(9, Choose::Seed(1))])?;
@@ -146,7 +167,21 @@ fn rack(alloc: Global) -> Result<Rack, Fail>
 
 /// A rack of a board with two sets of two frames and a board with one such set.
 fn wide_rack(alloc: Global) -> Result<Rack, Fail>
-    ensures { IfOk result (λ rack. rack.specs ≡ record { number = 10; table = 0; shape = Shape.Cached 2 2; choose = Choose.First } ∷ record { number = 9; table = 0; shape = Shape.Cached 1 2; choose = Choose.First } ∷ [] × rack.rows ≡ [] × rack.counts ≡ no_counts ∷ no_counts ∷ []) }
+    ensures { IfOk result (λ rack.
+        rack.specs
+        ≡ record {
+          number = 10;
+          table = 0;
+          shape = Shape.Cached 2 2;
+          choose = Choose.First;
+        }
+        ∷ record {
+          number = 9;
+          table = 0;
+          shape = Shape.Cached 1 2;
+          choose = Choose.First;
+        } ∷ [] × rack.rows ≡ []
+        × rack.counts ≡ no_counts ∷ no_counts ∷ []) }
 {
     let tables = tables(alloc)?;
     let boards = Vec::from_array(alloc, [cached(10, 2, 2), cached(9, 1, 2)])?;
@@ -156,7 +191,15 @@ fn wide_rack(alloc: Global) -> Result<Rack, Fail>
 
 /// A rack of one board with one frame.
 pub fn narrow_rack(alloc: Global) -> Result<Rack, Fail>
-    ensures { IfOk result (λ rack. rack.specs ≡ record { number = 3; table = 0; shape = Shape.Cached 1 1; choose = Choose.First } ∷ [] × rack.rows ≡ [] × rack.counts ≡ no_counts ∷ []) }
+    ensures { IfOk result (λ rack.
+        rack.specs
+        ≡ record {
+          number = 3;
+          table = 0;
+          shape = Shape.Cached 1 1;
+          choose = Choose.First;
+        } ∷ [] × rack.rows ≡ []
+        × rack.counts ≡ no_counts ∷ []) }
 {
     let tables = tables(alloc)?;
     let boards = Vec::from_array(alloc, [cached(3, 1, 1)])?;

@@ -1,7 +1,7 @@
 -- What the definitions of the theorem say of small lines, histories, configurations and runs, each computed.
 use Rattle.std.proofs.Common.{◌≡◌, ℕ, zero, suc, ◌≤◌, [], ◌∷◌, None, refl, arith}
 use Rattle.moesi_state.specs.declared.State.TheVariants.{M, O, E, S}
-use Rattle.settling.specs.Settling.{lines_after, driven_below, rounds_from}
+use Rattle.bus_model.specs.Settling.{lines_after, driven_below, rounds_from}
 use Rattle.bus_model.specs.Events.{Local, Drop, Grant}
 use Rattle.bus_model.specs.Configuration.{present_access}
 use Rattle.bus_model.specs.Steps.{Can}
@@ -21,13 +21,16 @@ owner_and_sharer = record { one_owner = omega arith; alone = λ h. cc; copies = 
 pub no_two_owners : LineCoherent (copy 1 0 O new_words 0 ∷ copy 2 0 O new_words 0 ∷ []) old_words new_words → ⊥
 no_two_owners h = let few : 2 ≤ 1 = h.one_owner in omega arith
 
-pub no_modified_beside_owned : LineCoherent (copy 1 0 M new_words 0 ∷ copy 2 0 O new_words 0 ∷ []) old_words new_words → ⊥
+pub no_modified_beside_owned :
+    LineCoherent (copy 1 0 M new_words 0 ∷ copy 2 0 O new_words 0 ∷ []) old_words new_words → ⊥
 no_modified_beside_owned h = let few : 2 ≤ 1 = h.one_owner in omega arith
 
-pub no_modified_beside_shared : LineCoherent (copy 1 0 M new_words 0 ∷ copy 2 0 S new_words 0 ∷ []) old_words new_words → ⊥
+pub no_modified_beside_shared :
+    LineCoherent (copy 1 0 M new_words 0 ∷ copy 2 0 S new_words 0 ∷ []) old_words new_words → ⊥
 no_modified_beside_shared h = let few : 2 ≤ 1 = h.alone refl in omega arith
 
-pub no_exclusive_beside_shared : LineCoherent (copy 1 0 E new_words 0 ∷ copy 2 0 S new_words 0 ∷ []) new_words new_words → ⊥
+pub no_exclusive_beside_shared :
+    LineCoherent (copy 1 0 E new_words 0 ∷ copy 2 0 S new_words 0 ∷ []) new_words new_words → ⊥
 no_exclusive_beside_shared h = let few : 2 ≤ 1 = h.alone refl in omega arith
 
 pub no_stale_copy : LineCoherent (copy 1 0 S old_words 0 ∷ []) new_words new_words → ⊥
@@ -44,7 +47,12 @@ no_write_to_a_held_line can = let quiet = can.held refl in cc
 
 pub highest_wins : Can given_up both_raised (Grant 3 1 10 2)
 unfolding lines_after driven_below rounds_from
-highest_wins = record { idle = refl; by_raised = refl; wins = record { raised = refl; number_highest = refl; lines_settled = refl; rounds_settled = refl } }
+highest_wins =
+    record {
+      idle = refl;
+      by_raised = refl;
+      wins = record { raised = refl; number_highest = refl; lines_settled = refl; rounds_settled = refl };
+    }
 
 pub no_grant_to_another : (lines rounds : ℕ) → Can given_up both_raised (Grant 3 3 lines rounds) → ⊥
 unfolding lines_after driven_below rounds_from
@@ -58,7 +66,8 @@ no_drop_of_an_owned_victim (access, can) = let clean = can.clean in cc
 
 pub coherent : Coherent intervention intervention_events intervention_end
 coherent zero low = record { one_owner = omega arith; alone = λ h. cc; copies = tt; unowned = λ h. refl }
-coherent (suc zero) low = record { one_owner = omega arith; alone = λ h. omega arith; copies = (refl, tt); unowned = λ h. cc }
+coherent (suc zero) low =
+    record { one_owner = omega arith; alone = λ h. omega arith; copies = (refl, tt); unowned = λ h. cc }
 coherent (suc (suc line)) low = absurd (omega arith)
 
 pub not_without_the_owner : Coherent intervention intervention_events lost_copy → ⊥

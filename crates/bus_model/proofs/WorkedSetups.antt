@@ -22,7 +22,9 @@ use Rattle.bus_model.specs.WorkedCopies.{clean_victim, captured}
 -- ---- tests of what a setup must be
 
 -- What a test that holds at each element says of each element.
-each_tested : {X : Type 0} (test : X → Bool) (P : X → Type 0) → ((x : X) → test x ≡ true → P x) → (xs : List X) → list_all test xs ≡ true → All P xs
+each_tested :
+    {X : Type 0} (test : X → Bool) (P : X → Type 0) → ((x : X) → test x ≡ true → P x) → (xs : List X)
+    → list_all test xs ≡ true → All P xs
 each_tested test P says [] h = All-nil P
 each_tested test P says (x ∷ xs) h =
     let p = both_true (test x) (list_all test xs) h in
@@ -33,7 +35,9 @@ abbrev all_pairs : {X : Type 0} → (X → X → Bool) → List X → Bool
 all_pairs test [] = true
 all_pairs test (x ∷ xs) = list_all (test x) xs && all_pairs test xs
 
-pairs_tested : {X : Type 0} (test : X → X → Bool) (R : X → X → Type 0) → ((x y : X) → test x y ≡ true → R x y) → (xs : List X) → all_pairs test xs ≡ true → AllPairs R xs
+pairs_tested :
+    {X : Type 0} (test : X → X → Bool) (R : X → X → Type 0) → ((x y : X) → test x y ≡ true → R x y) → (xs : List X)
+    → all_pairs test xs ≡ true → AllPairs R xs
 pairs_tested test R says [] h = λ i j d low high. absurd (omega arith)
 pairs_tested test R says (x ∷ xs) h =
     let p = both_true (list_all (test x) xs) (all_pairs test xs) h in
@@ -61,16 +65,20 @@ other_number a b h e = let same : (a.number == b.number) ≡ true = rw e (same_n
 
 -- Whether a table reaches no state but I.
 abbrev stays_invalid : Table → Bool
-stays_invalid table = not (is_reached table M) && (not (is_reached table O) && (not (is_reached table E) && not (is_reached table S)))
+stays_invalid table =
+    not (is_reached table M) && (not (is_reached table O) && (not (is_reached table E) && not (is_reached table S)))
 
 only_invalid : (table : Table) → stays_invalid table ≡ true → (state : State) → Reached table state → state ≡ I
 only_invalid table h state reached =
-    let m = both_true (not (is_reached table M)) (not (is_reached table O) && (not (is_reached table E) && not (is_reached table S))) h in
+    let m = both_true (not (is_reached table M))
+    (not (is_reached table O) && (not (is_reached table E) && not (is_reached table S))) h in
     let o = both_true (not (is_reached table O)) (not (is_reached table E) && not (is_reached table S)) m.1 in
     let e = both_true (not (is_reached table E)) (not (is_reached table S)) o.1 in
     go m.0 o.0 e.0 e.1 state (reached-test table state reached)
   where
-    go : not (is_reached table M) ≡ true → not (is_reached table O) ≡ true → not (is_reached table E) ≡ true → not (is_reached table S) ≡ true → (state : State) → is_reached table state ≡ true → state ≡ I
+    go :
+        not (is_reached table M) ≡ true → not (is_reached table O) ≡ true → not (is_reached table E) ≡ true
+        → not (is_reached table S) ≡ true → (state : State) → is_reached table state ≡ true → state ≡ I
     go m o e s M h = cc
     go m o e s O h = cc
     go m o e s E h = cc
@@ -98,8 +106,10 @@ board_fits setup spec =
 board_tested : (setup : Setup) (spec : BoardSpec) → board_fits setup spec ≡ true → BoardFits setup spec
 board_tested setup spec h =
     let table = slice_index_or setup.tables spec.table (empty_table []) in
-    let low = both_true (leb 1 spec.number) (leb spec.number 255 && (ltb spec.table (length setup.tables) && shape_fits table spec.shape)) h in
-    let high = both_true (leb spec.number 255) (ltb spec.table (length setup.tables) && shape_fits table spec.shape) low.1 in
+    let low = both_true (leb 1 spec.number)
+    (leb spec.number 255 && (ltb spec.table (length setup.tables) && shape_fits table spec.shape)) h in
+    let high =
+    both_true (leb spec.number 255) (ltb spec.table (length setup.tables) && shape_fits table spec.shape) low.1 in
     let rest = both_true (ltb spec.table (length setup.tables)) (shape_fits table spec.shape) high.1 in
     record {
       number_low = leb-true 1 spec.number low.0;
@@ -127,19 +137,27 @@ well_formed :
     → WellFormed setup
 well_formed setup memory words low high tables names some few boards numbers scripts addresses accesses = record {
   memory = memory;
-  words = each_tested (λ word. ltb word (2 ^ 32)) (λ word. word < 2 ^ 32) (λ word. ltb-true word (2 ^ 32)) setup.memory words;
+  words =
+      each_tested (λ word. ltb word (2 ^ 32)) (λ word. word < 2 ^ 32) (λ word. ltb-true word (2 ^ 32)) setup.memory
+      words;
   lines_low = leb-true 1 (line_count setup) low;
   lines_high = leb-true (line_count setup) 4096 high;
   tables = leb-true (length setup.tables) 16 tables;
-  names = pairs_tested (λ (a b : Table). not (same_name a.name b.name)) (λ (a b : Table). a.name ≢ b.name) other_name setup.tables names;
+  names =
+      pairs_tested (λ (a b : Table). not (same_name a.name b.name)) (λ (a b : Table). a.name ≢ b.name) other_name
+      setup.tables names;
   boards_low = leb-true 1 (length setup.boards) some;
   boards_high = leb-true (length setup.boards) 16 few;
   boards = each_tested (board_fits setup) (BoardFits setup) (board_tested setup) setup.boards boards;
-  numbers = pairs_tested (λ (a b : BoardSpec). not (a.number == b.number)) (λ (a b : BoardSpec). a.number ≢ b.number) other_number setup.boards numbers;
+  numbers =
+      pairs_tested (λ (a b : BoardSpec). not (a.number == b.number)) (λ (a b : BoardSpec). a.number ≢ b.number)
+      other_number setup.boards numbers;
   scripts = scripts;
   addresses =
-      each_tested (list_all (λ (access : Access). ltb (address_of access) (length setup.memory))) (All (λ (access : Access). address_of access < length setup.memory))
-      (each_tested (λ (access : Access). ltb (address_of access) (length setup.memory)) (λ (access : Access). address_of access < length setup.memory)
+      each_tested (list_all (λ (access : Access). ltb (address_of access) (length setup.memory)))
+      (All (λ (access : Access). address_of access < length setup.memory))
+      (each_tested (λ (access : Access). ltb (address_of access) (length setup.memory))
+      (λ (access : Access). address_of access < length setup.memory)
       (λ (access : Access). ltb-true (address_of access) (length setup.memory)))
       setup.scripts addresses;
   accesses = leb-true (access_count setup) 100000 accesses;
@@ -189,7 +207,8 @@ quiet_read_accepted = All-from_recursion InClass quiet_read.tables (refl, tt)
 
 pub write_through_word_fits : WellFormed write_through_word
 unfolding reached_within
-write_through_word_fits = well_formed write_through_word refl refl refl refl refl refl refl refl refl refl refl refl refl
+write_through_word_fits =
+    well_formed write_through_word refl refl refl refl refl refl refl refl refl refl refl refl refl
 
 pub write_through_word_accepted : AllInClass write_through_word
 unfolding faults reached_within

@@ -1,4 +1,5 @@
--- The data phase as a table: for each bus event where the words come from, whether the line becomes the master's row, and who takes words besides the master.
+-- The data phase as a table: for each bus event where the words come from, whether the line becomes
+-- the master's row, and who takes words besides the master.
 use Rattle.std.specs.Prelude.{◌≡◌, Bool, List, []}
 use Rattle.bus_signals.specs.declared.BusEvent.{BusEvent}
 use Rattle.bus_model.specs.Events.{Answer, Source, Nobody, Takers}
@@ -29,8 +30,10 @@ owner_or_memory_takes answers = intervener_takes (intervener answers)
 abbrev pub memory_takes : List Answer → Takers
 memory_takes answers = with_memory []
 
--- A row of the table: in the data phase of the event the words come from this source, the line becomes the master's row or does not, and these take words.
-pub record Moves (event : BusEvent) (source : List Answer → Source) (fills : Bool) (takers : List Answer → Takers) : Type 0 where
+-- A row of the table: in the data phase of the event the words come from this source, the line
+-- becomes the master's row or does not, and these take words.
+pub record Moves (event : BusEvent) (source : List Answer → Source) (fills : Bool)
+    (takers : List Answer → Takers) : Type 0 where
   pub from : (answers : List Answer) → source_of event answers ≡ source answers
   pub row : fills_row event ≡ fills
   pub to : (answers : List Answer) → takers_of event answers ≡ takers answers

@@ -9,6 +9,7 @@ pub use Rattle.journal.specs.declared.event.Event.{Event}
 pub use Rattle.journal.specs.declared.event.Event.TheVariants.{Local, Drop, Raise, Grant, Connect, DataPhase}
 use Rattle.journal.specs.declared.event.Connected.{Connected}
 
--- A transaction whose answers are in, and whose data has not moved yet. `Connected` is also the name of the phase in which it is.
+-- A transaction whose answers are in, and whose data has not moved yet. `Connected` is also the
+-- name of the phase in which it is.
 abbrev pub Transaction : Type 0
 Transaction = Connected

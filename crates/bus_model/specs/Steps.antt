@@ -1,4 +1,5 @@
--- The steps of the machine. An event is a step where it may happen in the configuration, and it then fixes the next configuration.
+-- The steps of the machine. An event is a step where it may happen in the configuration, and it
+-- then fixes the next configuration.
 use Rattle.std.specs.Prelude.{List, ◌≡◌, ◌⊎◌, ℕ, Bool, true, false, Option, Some, None, IsTrue, IsFalse, IsSome, if◌then◌else◌}
 use Rattle.bus_signals.specs.declared.Access.{Access}
 use Rattle.bus_signals.specs.declared.BusEvent.TheVariants.{Flu}
@@ -25,16 +26,20 @@ is_quiet (Access.Pass a) before after = same_state before after
 is_quiet (Access.Flush a) before after = same_state before after
 
 -- A board may complete its present access by itself.
-pub record CanLocal (setup : Setup) (c : Configuration) (board : ℕ) (before after : State) (done : Done) : Type 0 where
+pub record CanLocal (setup : Setup) (c : Configuration) (board : ℕ) (before after : State)
+    (done : Done) : Type 0 where
   pub present : present_access setup c.boards board ≡ Some done.access
   pub not_connected : IsFalse (is_connected c.phase board)
   pub state : state_at c.rows board (access_line done.access) ≡ before
   pub alternative : IsTrue (has_local (cell_of setup c.rows board done.access) (silently after))
-  pub held : IsTrue (is_held c.phase board (access_line done.access)) → IsTrue (is_quiet done.access before after)
+  pub held :
+      IsTrue (is_held c.phase board (access_line done.access))
+      → IsTrue (is_quiet done.access before after)
   pub reply : done.reply ≡ reply_of done.access (words_at c.rows board (access_line done.access))
 
 -- A board may give up a clean victim without the bus.
-pub record CanDrop (setup : Setup) (c : Configuration) (board line : ℕ) (before : State) (access : Access) : Type 0 where
+pub record CanDrop (setup : Setup) (c : Configuration) (board line : ℕ) (before : State)
+    (access : Access) : Type 0 where
   pub present : present_access setup c.boards board ≡ Some access
   pub not_connected : IsFalse (is_connected c.phase board)
   pub wants : IsTrue (wants_row setup c.rows board access)
@@ -56,42 +61,55 @@ pub record CanGrant (setup : Setup) (c : Configuration) (by winner lines rounds 
   pub by_raised : IsTrue (is_raised c.boards by)
   pub wins : Wins setup c.boards winner lines rounds
 
--- A transaction serves the master's access: it is an alternative of the master's cell, and there is room for the row that it may bring.
-pub record ForAccess (setup : Setup) (rows : List Row) (t : Transaction) (access : Access) : Type 0 where
-  pub line : t.line ≡ access_line access
-  pub alternative : IsTrue (has_local (cell_of setup rows t.master access) (record { result = t.outcome; bus = Some t.event }))
-  pub room : IsTrue (is_full setup rows t.master t.line) → IsTrue (is_invalid t.outcome)
+-- A transaction serves the master's access: it is an alternative of the master's cell, and there is
+-- room for the row that it may bring.
+pub record ForAccess (setup : Setup) (rows : List Row) (t : Transaction) (access : Access) : Type 0
+  where
+    pub line : t.line ≡ access_line access
+    pub alternative :
+        IsTrue (has_local (cell_of setup rows t.master access)
+        (record { result = t.outcome; bus = Some t.event }))
+    pub room : IsTrue (is_full setup rows t.master t.line) → IsTrue (is_invalid t.outcome)
 
 -- A transaction flushes a victim that the master owns, to make room for its access.
-pub record ForVictim (setup : Setup) (rows : List Row) (t : Transaction) (access : Access) : Type 0 where
-  pub wants : IsTrue (wants_row setup rows t.master access)
-  pub victim : victim setup rows t.master (access_line access) ≡ Some (t.line, state_at rows t.master t.line)
-  pub owned : IsTrue (owns (state_at rows t.master t.line))
-  pub event : t.event ≡ Flu
-  pub outcome : t.outcome ≡ Fixed I
+pub record ForVictim (setup : Setup) (rows : List Row) (t : Transaction) (access : Access) : Type 0
+  where
+    pub wants : IsTrue (wants_row setup rows t.master access)
+    pub victim :
+        victim setup rows t.master (access_line access)
+        ≡ Some (t.line, state_at rows t.master t.line)
+    pub owned : IsTrue (owns (state_at rows t.master t.line))
+    pub event : t.event ≡ Flu
+    pub outcome : t.outcome ≡ Fixed I
 
 -- What a transaction is for.
 abbrev pub Purpose : Setup → List Row → Transaction → Access → Type 0
 Purpose setup rows t access = ForAccess setup rows t access ⊎ ForVictim setup rows t access
 
 -- The granted board may connect, with the answers of the other boards that hold the line.
-pub record CanConnect (setup : Setup) (c : Configuration) (t : Transaction) (access : Access) : Type 0 where
+pub record CanConnect (setup : Setup) (c : Configuration) (t : Transaction) (access : Access) : Type
+    0 where
   pub present : present_access setup c.boards t.master ≡ Some access
   pub granted : c.phase ≡ Granted t.master
   pub purpose : Purpose setup c.rows t access
-  pub answers : AnswersFit setup c.rows t.line t.event (other_holders setup c.rows t.master t.line) t.answers
+  pub answers :
+      AnswersFit setup c.rows t.line t.event (other_holders setup c.rows t.master t.line) t.answers
 
 -- The data of the transaction that is connected may move.
-pub record CanData (setup : Setup) (c : Configuration) (e : Carried) (t : Transaction) : Type 0 where
-  pub present : IsSome (present_access setup c.boards e.master)
-  pub connected : c.phase ≡ Connected t
-  pub master : e.master ≡ t.master
-  pub event : e.event ≡ t.event
-  pub line : e.line ≡ t.line
-  pub source : e.source ≡ source_of t.event t.answers
-  pub takers : e.takers ≡ takers_of t.event t.answers
-  pub states : e.states ≡ states_of t
-  pub done : e.done ≡ done_of (present_access setup c.boards e.master) e.line (source_words c e.master e.line e.source)
+pub record CanData (setup : Setup) (c : Configuration) (e : Carried) (t : Transaction) : Type 0
+  where
+    pub present : IsSome (present_access setup c.boards e.master)
+    pub connected : c.phase ≡ Connected t
+    pub master : e.master ≡ t.master
+    pub event : e.event ≡ t.event
+    pub line : e.line ≡ t.line
+    pub source : e.source ≡ source_of t.event t.answers
+    pub takers : e.takers ≡ takers_of t.event t.answers
+    pub states : e.states ≡ states_of t
+    pub done :
+        e.done
+        ≡ done_of (present_access setup c.boards e.master) e.line
+        (source_words c e.master e.line e.source)
 
 -- An event may happen in a configuration.
 abbrev pub Can : Setup → Configuration → Event → Type 0
@@ -140,7 +158,10 @@ after c (Grant by winner lines rounds) = in_phase (Granted winner) (ask false c 
 after c (Connect t) = after_connect c t
 after c (DataPhase e) = after_data c e
 
--- A step leads from one configuration to another by an event: the event may happen, and the other configuration is the one after it. `Leads` says the same of each event of a run by `Can` and `after`.
-pub record Step (setup : Setup) (c : Configuration) (event : Event) (next : Configuration) : Type 0 where
-  pub can : Can setup c event
-  pub moves : next ≡ after c event
+-- A step leads from one configuration to another by an event: the event may happen, and the other
+-- configuration is the one after it. `Leads` says the same of each event of a run by `Can` and
+-- `after`.
+pub record Step (setup : Setup) (c : Configuration) (event : Event) (next : Configuration) : Type 0
+  where
+    pub can : Can setup c event
+    pub moves : next ≡ after c event

@@ -20,7 +20,7 @@ use Rattle.bus_model.specs.Setup.{Setup, Choose, First, Round, Seed, choose_of, 
 use Rattle.bus_model.specs.Events.{Event, Local, Drop, Raise, Grant, Connect, DataPhase, Transaction}
 use Rattle.bus_model.specs.Configuration.{Configuration, Phase, Idle, Granted, Connected, opening, state_at, words_at, progress_of, present_access, is_raised, is_granted, is_held}
 use Rattle.bus_model.specs.Board.{access_line, cell_of, victim, is_clean}
-use Rattle.settling.specs.Settling.{settled_lines, settled_rounds}
+use Rattle.bus_model.specs.Settling.{settled_lines, settled_rounds}
 use Rattle.bus_model.specs.Arbitration.{competing_numbers, winner_of}
 use Rattle.bus_model.specs.Connecting.{other_holders}
 use Rattle.bus_model.specs.Carrying.{carried_of, reply_of}
@@ -36,14 +36,16 @@ draw First n = 0
 draw Round n = n % 2 ^ 32
 draw (Seed seed) n = seeded_word seed n
 
--- The alternative that a chooser picks with its n-th draw. A list without alternatives gives the other value.
+-- The alternative that a chooser picks with its n-th draw. A list without alternatives gives the
+-- other value.
 abbrev pub pick : {X : Type 0} → X → Choose → ℕ → List X → X
 pick other choose n xs = slice_index_or xs (draw choose n % length xs) other
 
 -- The alternative that a board picks for an access.
 abbrev pub decide : Setup → Configuration → ℕ → Access → LocalAction
 decide setup c board access =
-    pick (silently I) (choose_of setup board) (progress_of c.boards board).spent (cell_of setup c.rows board access)
+    pick (silently I) (choose_of setup board) (progress_of c.boards board).spent
+    (cell_of setup c.rows board access)
 
 -- The answer that a board picks for a transaction.
 abbrev pub decide_answer : Setup → Configuration → ℕ → ℕ → BusEvent → SnoopAction
@@ -58,7 +60,9 @@ transaction_of setup c board line event outcome = record {
   event = event;
   line = line;
   outcome = outcome;
-  answers = map (λ other. record { board = other; action = decide_answer setup c other line event }) (other_holders setup c.rows board line);
+  answers =
+      map (λ other. record { board = other; action = decide_answer setup c other line event })
+      (other_holders setup c.rows board line);
 }
 
 -- Why a board waits: another board's transaction is connected on the line, or has the bus.
@@ -84,14 +88,16 @@ own_transaction Idle board = None
 own_transaction (Granted b) board = None
 own_transaction (Connected t) board = if t.master == board then Some t else None
 
--- A turn without the bus: the board completes its access, or waits for a line that is held (case 3).
+-- A turn without the bus (case 3): the board completes its access, or waits for a line that is
+-- held.
 abbrev pub local_turn : Setup → Configuration → ℕ → Access → State → Turn
 local_turn setup c board access state =
     let line = access_line access in
     let before = state_at c.rows board line in
     if is_held c.phase board line && not (is_quiet access before state)
     then Waits (LineHeld (bus_holder c.phase) line)
-    else Did (Local board before state (record { access = access; reply = reply_of access (words_at c.rows board line) }))
+    else Did (Local board before state
+    (record { access = access; reply = reply_of access (words_at c.rows board line) }))
 
 -- The grant of a turn (case 7).
 abbrev pub grant_turn : Setup → Configuration → ℕ → Turn
@@ -99,7 +105,8 @@ grant_turn setup c board =
     let numbers = competing_numbers setup c.boards in
     Did (Grant board (winner_of setup c.boards) (settled_lines numbers) (settled_rounds numbers))
 
--- A turn of a board that has no grant and needs the bus: it raises a request (case 6), with a request raised it grants the bus where the bus is idle (case 7), and else it waits (case 8).
+-- A turn of a board that has no grant and needs the bus: it raises a request (case 6), with a
+-- request raised it grants the bus where the bus is idle (case 7), and else it waits (case 8).
 abbrev pub request_turn : Setup → Configuration → ℕ → Bool → Phase → Turn
 request_turn setup c board false phase = Did (Raise board)
 request_turn setup c board true Idle = grant_turn setup c board
@@ -108,27 +115,38 @@ request_turn setup c board true (Connected t) = Waits (BusTaken t.master)
 
 -- A turn for a transaction: a board that is granted the bus connects (case 5).
 abbrev pub bus_turn : Setup → Configuration → ℕ → ℕ → BusEvent → Outcome → Bool → Turn
-bus_turn setup c board line event outcome true = Did (Connect (transaction_of setup c board line event outcome))
-bus_turn setup c board line event outcome false = request_turn setup c board (is_raised c.boards board) c.phase
+bus_turn setup c board line event outcome true =
+    Did (Connect (transaction_of setup c board line event outcome))
+bus_turn setup c board line event outcome false =
+    request_turn setup c board (is_raised c.boards board) c.phase
 
--- A turn that must first make room by a victim: a clean victim is dropped unless its line is held, and any other is flushed (case 4).
+-- A turn that must first make room by a victim: a clean victim is dropped unless its line is held,
+-- and any other is flushed (case 4).
 abbrev pub room_turn : Setup → Configuration → ℕ → ℕ → State → Bool → Turn
 room_turn setup c board line state true =
-    if is_held c.phase board line then Waits (LineHeld (bus_holder c.phase) line) else Did (Drop board line state)
-room_turn setup c board line state false = bus_turn setup c board line Flu (Fixed I) (is_granted c.phase board)
+    if is_held c.phase board line
+    then Waits (LineHeld (bus_holder c.phase) line)
+    else Did (Drop board line state)
+room_turn setup c board line state false =
+    bus_turn setup c board line Flu (Fixed I) (is_granted c.phase board)
 
 -- A turn by a transaction, once it is known whether there must be a victim.
-abbrev pub transaction_turn : Setup → Configuration → ℕ → Access → BusEvent → Outcome → Option (ℕ × State) → Turn
-transaction_turn setup c board access event outcome None = bus_turn setup c board (access_line access) event outcome (is_granted c.phase board)
-transaction_turn setup c board access event outcome (Some v) = room_turn setup c board v.0 v.1 (is_clean v.1)
+abbrev pub transaction_turn :
+    Setup → Configuration → ℕ → Access → BusEvent → Outcome → Option (ℕ × State) → Turn
+transaction_turn setup c board access event outcome None =
+    bus_turn setup c board (access_line access) event outcome (is_granted c.phase board)
+transaction_turn setup c board access event outcome (Some v) =
+    room_turn setup c board v.0 v.1 (is_clean v.1)
 
 -- The victim that must go before an outcome: none where the outcome leaves no copy.
 abbrev pub victim_for : Setup → Configuration → ℕ → Access → Outcome → Option (ℕ × State)
-victim_for setup c board access outcome = if is_invalid outcome then None else victim setup c.rows board (access_line access)
+victim_for setup c board access outcome =
+    if is_invalid outcome then None else victim setup c.rows board (access_line access)
 
 -- A turn with the alternative that the board picks.
 abbrev pub action_turn : Setup → Configuration → ℕ → Access → Outcome → Option BusEvent → Turn
-action_turn setup c board access outcome None = local_turn setup c board access (settled outcome false)
+action_turn setup c board access outcome None =
+    local_turn setup c board access (settled outcome false)
 action_turn setup c board access outcome (Some event) =
     transaction_turn setup c board access event outcome (victim_for setup c board access outcome)
 
@@ -136,12 +154,14 @@ action_turn setup c board access outcome (Some event) =
 abbrev pub access_turn : Setup → Configuration → ℕ → Access → Option Transaction → Turn
 access_turn setup c board access (Some t) = Did (DataPhase (carried_of setup c t))
 access_turn setup c board access None =
-    let action = decide setup c board access in action_turn setup c board access action.result action.bus
+    let action = decide setup c board access in
+    action_turn setup c board access action.result action.bus
 
 -- A turn of a board, by what it has still to do: without an access it is finished (case 1).
 abbrev pub turn_for : Setup → Configuration → ℕ → Option Access → Turn
 turn_for setup c board None = Finished
-turn_for setup c board (Some access) = access_turn setup c board access (own_transaction c.phase board)
+turn_for setup c board (Some access) =
+    access_turn setup c board access (own_transaction c.phase board)
 
 -- A turn of a board. The cases of its parts are numbered in the order in which they are tried.
 abbrev pub turn : Setup → Configuration → ℕ → Turn
@@ -151,9 +171,15 @@ turn setup c board = turn_for setup c board (present_access setup c.boards board
 abbrev pub events_of_turns : Setup → Configuration → List ℕ → List Event
 events_of_turns setup c [] = []
 events_of_turns setup c (board ∷ boards) =
-    elim (turn setup c board) [ Did event ↦ event ∷ events_of_turns setup (after c event) boards | Waits why ↦ events_of_turns setup c boards | Finished ↦ events_of_turns setup c boards ]
+    elim (turn setup c board) [
+      | Did event ↦ event ∷ events_of_turns setup (after c event) boards
+      | Waits why ↦ events_of_turns setup c boards
+      | Finished ↦ events_of_turns setup c boards
+    ]
 
--- What is played by a schedule: first its turns, and then rounds, in which each board has one turn in order.
+-- What is played by a schedule: first its turns, and then rounds, in which each board has one turn
+-- in order.
 abbrev pub played : Setup → List ℕ → List Event
 played setup schedule =
-    events_of_turns setup (opening setup) (schedule ++ repeated (8 * access_count setup) (board_places setup))
+    events_of_turns setup (opening setup)
+    (schedule ++ repeated (8 * access_count setup) (board_places setup))

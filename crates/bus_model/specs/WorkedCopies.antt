@@ -1,4 +1,6 @@
--- Small runs in which a clean victim is dropped, a line is passed, a broadcast word is captured, and an owner invalidates the other copies: each has a setup, its schedule, the events of the schedule's turns, and the configuration to which they lead.
+-- Small runs in which a clean victim is dropped, a line is passed, a broadcast word is captured,
+-- and an owner invalidates the other copies: each has a setup, its schedule, the events of the
+-- schedule's turns, and the configuration to which they lead.
 use Rattle.std.specs.Prelude.{ℕ, true, false, List, [], ◌∷◌, Some, None, slice_set, codes}
 use Rattle.bus_signals.specs.declared.BusEvent.TheVariants.{Rd, Rfo, Inv, Bwr, Ubw, Pas}
 use Rattle.moesi_state.specs.declared.State.TheVariants.{M, O, E, S, I}
@@ -12,15 +14,27 @@ use Rattle.bus_model.specs.Configuration.{Configuration, Idle}
 use Rattle.bus_model.specs.Carrying.{no_takers, with_memory}
 use Rattle.bus_model.specs.WorkedWords.{read, write, pass, cached_board, plain_board, connection, says, data_of, did, copy, progress}
 
--- A copy-back board that writes a shared line by a broadcast and owns it from then on, and an owned line after it invalidates the other copies.
+-- A copy-back board that writes a shared line by a broadcast and owns it from then on, and an owned
+-- line after it invalidates the other copies.
 abbrev pub fixed_owner : Table
-fixed_owner = record { name = codes "fo"; locals = copy_back_locals (by_bus M Inv) (by_bus O Bwr); answers = copy_back_answers }
+fixed_owner =
+    record {
+      name = codes "fo";
+      locals = copy_back_locals (by_bus M Inv) (by_bus O Bwr);
+      answers = copy_back_answers;
+    }
 
 -- An uncached board that broadcasts the words that it writes.
 abbrev pub broadcasting : Table
-broadcasting = record { name = codes "bw"; locals = slice_set uncached.locals 17 (by_bus I Ubw ∷ []); answers = uncached.answers }
+broadcasting =
+    record {
+      name = codes "bw";
+      locals = slice_set uncached.locals 17 (by_bus I Ubw ∷ []);
+      answers = uncached.answers;
+    }
 
--- A board with one row drops a clean copy to make room for another line, writes the new line, and passes it: memory has the line again, and the board keeps its copy.
+-- A board with one row drops a clean copy to make room for another line, writes the new line, and
+-- passes it: memory has the line again, and the board keeps its copy.
 abbrev pub clean_victim : Setup
 clean_victim = record {
   memory = 1 ∷ 0 ∷ 0 ∷ 0 ∷ 2 ∷ 0 ∷ 0 ∷ 0 ∷ [];
@@ -58,7 +72,8 @@ clean_victim_end = record {
   phase = Idle;
 }
 
--- Two holders capture the word that an uncached board broadcasts. The sharer then broadcasts a word of its own and becomes the owner, and as the owner it invalidates the other copy.
+-- Two holders capture the word that an uncached board broadcasts. The sharer then broadcasts a word
+-- of its own and becomes the owner, and as the owner it invalidates the other copy.
 abbrev pub captured : Setup
 captured = record {
   memory = 0 ∷ 0 ∷ 0 ∷ 0 ∷ [];
@@ -68,7 +83,8 @@ captured = record {
 }
 
 abbrev pub captured_schedule : List ℕ
-captured_schedule = 1 ∷ 1 ∷ 1 ∷ 1 ∷ 2 ∷ 2 ∷ 2 ∷ 2 ∷ 3 ∷ 3 ∷ 3 ∷ 3 ∷ 2 ∷ 2 ∷ 2 ∷ 2 ∷ 2 ∷ 2 ∷ 2 ∷ 2 ∷ []
+captured_schedule =
+    1 ∷ 1 ∷ 1 ∷ 1 ∷ 2 ∷ 2 ∷ 2 ∷ 2 ∷ 3 ∷ 3 ∷ 3 ∷ 3 ∷ 2 ∷ 2 ∷ 2 ∷ 2 ∷ 2 ∷ 2 ∷ 2 ∷ 2 ∷ []
 
 abbrev pub captured_events : List Event
 captured_events =
@@ -82,12 +98,15 @@ captured_events =
     ∷ data_of 2 Rd 0 (Board 1) no_takers ((2, S) ∷ (1, O) ∷ []) (Some (did (read 0) (Some 5)))
     ∷ Raise 3
     ∷ Grant 3 3 7 0
-    ∷ Connect (connection 3 Ubw 0 (Fixed I) (says 1 (answer O false false true) ∷ says 2 (answer S false false true) ∷ []))
-    ∷ data_of 3 Ubw 0 Nobody (with_memory (1 ∷ 2 ∷ [])) ((3, I) ∷ (1, O) ∷ (2, S) ∷ []) (Some (did (write 1 8) None))
+    ∷ Connect (connection 3 Ubw 0 (Fixed I)
+    (says 1 (answer O false false true) ∷ says 2 (answer S false false true) ∷ []))
+    ∷ data_of 3 Ubw 0 Nobody (with_memory (1 ∷ 2 ∷ [])) ((3, I) ∷ (1, O) ∷ (2, S) ∷ [])
+    (Some (did (write 1 8) None))
     ∷ Raise 2
     ∷ Grant 2 2 9 0
     ∷ Connect (connection 2 Bwr 0 (Fixed O) (says 1 (answer S true false true) ∷ []))
-    ∷ data_of 2 Bwr 0 Nobody (with_memory (1 ∷ [])) ((2, O) ∷ (1, S) ∷ []) (Some (did (write 2 9) None))
+    ∷ data_of 2 Bwr 0 Nobody (with_memory (1 ∷ [])) ((2, O) ∷ (1, S) ∷ [])
+    (Some (did (write 2 9) None))
     ∷ Raise 2
     ∷ Grant 2 2 9 0
     ∷ Connect (connection 2 Inv 0 (Fixed M) (says 1 (answer I false false false) ∷ []))

@@ -21,11 +21,18 @@ intervention_entries = entry 1 1 (write 5 7) None ∷ entry 2 1 (read 5) (Some 7
 
 -- The entries of the quiet read: the second entry of board 1 is a read without the bus.
 abbrev pub quiet_read_entries : List Entry
-quiet_read_entries = entry 1 1 (read 0) (Some 0) ∷ entry 1 2 (read 0) (Some 0) ∷ entry 2 1 (read 0) (Some 0) ∷ []
+quiet_read_entries =
+    entry 1 1 (read 0) (Some 0) ∷ entry 1 2 (read 0) (Some 0) ∷ entry 2 1 (read 0) (Some 0) ∷ []
 
 -- The end of the intervention, but that the owner has lost its copy.
 abbrev pub lost_copy : Configuration
-lost_copy = record { memory = intervention_end.memory; rows = []; boards = intervention_end.boards; phase = intervention_end.phase }
+lost_copy =
+    record {
+      memory = intervention_end.memory;
+      rows = [];
+      boards = intervention_end.boards;
+      phase = intervention_end.phase;
+    }
 
 -- The intervention halfway: the write is done, and the read is not begun.
 abbrev pub halfway : Configuration
@@ -33,7 +40,13 @@ halfway = after_all (opening intervention) (take 4 intervention_events)
 
 -- The end of the intervention, but that a board has the bus.
 abbrev pub bus_taken : Configuration
-bus_taken = record { memory = intervention_end.memory; rows = intervention_end.rows; boards = intervention_end.boards; phase = Granted 1 }
+bus_taken =
+    record {
+      memory = intervention_end.memory;
+      rows = intervention_end.rows;
+      boards = intervention_end.boards;
+      phase = Granted 1;
+    }
 
 -- The bus is idle, and the boards 1 and 3, of the numbers 10 and 7, have each raised a request.
 abbrev pub both_raised : Configuration

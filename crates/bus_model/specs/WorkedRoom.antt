@@ -1,4 +1,6 @@
--- Small runs in which a board makes room, takes a word, gives up a grant or takes its alternatives in turn: each has a setup, its schedule, the events of the schedule's turns, and the configuration to which they lead.
+-- Small runs in which a board makes room, takes a word, gives up a grant or takes its alternatives
+-- in turn: each has a setup, its schedule, the events of the schedule's turns, and the
+-- configuration to which they lead.
 use Rattle.std.specs.Prelude.{ℕ, true, false, List, [], ◌∷◌, Some, None, slice_set, codes}
 use Rattle.bus_signals.specs.declared.BusEvent.TheVariants.{Rd, Rfo, Uwr, Ubw, Flu}
 use Rattle.moesi_state.specs.declared.State.TheVariants.{M, O, E, S, I}
@@ -14,7 +16,12 @@ use Rattle.bus_model.specs.WorkedWords.{read, write, flush, cached_board, connec
 
 -- An uncached board that has two alternatives for a write.
 abbrev pub two_writes : Table
-two_writes = record { name = codes "mix"; locals = slice_set uncached.locals 17 (by_bus I Uwr ∷ by_bus I Ubw ∷ []); answers = uncached.answers }
+two_writes =
+    record {
+      name = codes "mix";
+      locals = slice_set uncached.locals 17 (by_bus I Uwr ∷ by_bus I Ubw ∷ []);
+      answers = uncached.answers;
+    }
 
 -- An owner takes the word that a write-through board writes, in place of memory.
 abbrev pub write_through_word : Setup
@@ -40,12 +47,16 @@ write_through_word_events =
     ∷ data_of 2 Rd 0 (Board 1) no_takers ((2, S) ∷ (1, O) ∷ []) (Some (did (read 0) (Some 5)))
     ∷ Raise 3
     ∷ Grant 3 3 7 0
-    ∷ Connect (connection 3 Rd 0 (Fixed S) (says 1 (answer O true true false) ∷ says 2 (answer S true false false) ∷ []))
-    ∷ data_of 3 Rd 0 (Board 1) no_takers ((3, S) ∷ (1, O) ∷ (2, S) ∷ []) (Some (did (read 0) (Some 5)))
+    ∷ Connect (connection 3 Rd 0 (Fixed S)
+    (says 1 (answer O true true false) ∷ says 2 (answer S true false false) ∷ []))
+    ∷ data_of 3 Rd 0 (Board 1) no_takers ((3, S) ∷ (1, O) ∷ (2, S) ∷ [])
+    (Some (did (read 0) (Some 5)))
     ∷ Raise 2
     ∷ Grant 2 2 9 0
-    ∷ Connect (connection 2 Uwr 0 (Fixed S) (says 1 (answer O false true false) ∷ says 3 (answer I false false false) ∷ []))
-    ∷ data_of 2 Uwr 0 Nobody (taken_by 1) ((2, S) ∷ (1, O) ∷ (3, I) ∷ []) (Some (did (write 1 8) None))
+    ∷ Connect (connection 2 Uwr 0 (Fixed S)
+    (says 1 (answer O false true false) ∷ says 3 (answer I false false false) ∷ []))
+    ∷ data_of 2 Uwr 0 Nobody (taken_by 1) ((2, S) ∷ (1, O) ∷ (3, I) ∷ [])
+    (Some (did (write 1 8) None))
     ∷ []
 
 abbrev pub write_through_word_end : Configuration
@@ -117,8 +128,10 @@ given_up_events =
     ∷ Raise 3
     ∷ Grant 3 3 7 0
     ∷ Raise 1
-    ∷ Connect (connection 3 Rfo 0 (Fixed M) (says 1 (answer I false true false) ∷ says 2 (answer I false false false) ∷ []))
-    ∷ data_of 3 Rfo 0 (Board 1) no_takers ((3, M) ∷ (1, I) ∷ (2, I) ∷ []) (Some (did (write 0 6) None))
+    ∷ Connect (connection 3 Rfo 0 (Fixed M)
+    (says 1 (answer I false true false) ∷ says 2 (answer I false false false) ∷ []))
+    ∷ data_of 3 Rfo 0 (Board 1) no_takers ((3, M) ∷ (1, I) ∷ (2, I) ∷ [])
+    (Some (did (write 0 6) None))
     ∷ Raise 3
     ∷ Grant 3 1 10 2
     ∷ Local 1 I I (did (flush 0) None)

@@ -1,4 +1,5 @@
--- Small runs: each has a setup, its schedule, the events of the schedule's turns, and the configuration to which they lead.
+-- Small runs: each has a setup, its schedule, the events of the schedule's turns, and the
+-- configuration to which they lead.
 use Rattle.std.specs.Prelude.{◌≡◌, ℕ, true, false, List, [], ◌∷◌, Some, None, take, slice_set, codes}
 use Rattle.bus_signals.specs.declared.BusEvent.TheVariants.{Rd, Rfo, Inv, Urd, Bwr}
 use Rattle.moesi_state.specs.declared.State.TheVariants.{M, O, E, S, I}
@@ -14,8 +15,10 @@ use Rattle.bus_model.specs.Runs.{Run, after_all}
 use Rattle.bus_model.specs.Turns.{events_of_turns}
 use Rattle.bus_model.specs.WorkedWords.{read, write, cached_board, plain_board, connection, says, data_of, did, copy, progress}
 
--- A setup within its limits, whose tables are all in the class: the turns of a schedule give these events, and the events are a run to this configuration.
-pub record Plays (setup : Setup) (schedule : List ℕ) (events : List Event) (last : Configuration) : Type 0 where
+-- A setup within its limits, whose tables are all in the class: the turns of a schedule give these
+-- events, and the events are a run to this configuration.
+pub record Plays (setup : Setup) (schedule : List ℕ) (events : List Event) (last : Configuration) :
+    Type 0 where
   pub fits : WellFormed setup
   pub accepted : AllInClass setup
   pub turns : events_of_turns setup (opening setup) schedule ≡ events
@@ -23,9 +26,15 @@ pub record Plays (setup : Setup) (schedule : List ℕ) (events : List Event) (la
 
 -- A write-through board that gives its copy up when another board reads the line.
 abbrev pub write_through_dropping : Table
-write_through_dropping = record { name = codes "dr"; locals = write_through.locals; answers = slice_set write_through.answers 27 (quiet I) }
+write_through_dropping =
+    record {
+      name = codes "dr";
+      locals = write_through.locals;
+      answers = slice_set write_through.answers 27 (quiet I);
+    }
 
--- An uncached board reads a word that a copy-back board has written: the owner gives the word, and memory stays stale.
+-- An uncached board reads a word that a copy-back board has written: the owner gives the word, and
+-- memory stays stale.
 abbrev pub intervention : Setup
 intervention = record {
   memory = 0 ∷ 0 ∷ 0 ∷ 0 ∷ 0 ∷ 100 ∷ 0 ∷ 0 ∷ [];
@@ -57,7 +66,8 @@ intervention_end = record {
   phase = Idle;
 }
 
--- A dirty word beside a broadcast one: memory takes the broadcast word alone, and the owner gives the line.
+-- A dirty word beside a broadcast one: memory takes the broadcast word alone, and the owner gives
+-- the line.
 abbrev pub broadcast : Setup
 broadcast = record {
   memory = 0 ∷ 0 ∷ 0 ∷ 0 ∷ [];
@@ -82,11 +92,14 @@ broadcast_events =
     ∷ Raise 2
     ∷ Grant 2 2 9 0
     ∷ Connect (connection 2 Bwr 0 (OnHit O M) (says 1 (answer S true false true) ∷ []))
-    ∷ data_of 2 Bwr 0 Nobody (with_memory (1 ∷ [])) ((2, O) ∷ (1, S) ∷ []) (Some (did (write 1 6) None))
+    ∷ data_of 2 Bwr 0 Nobody (with_memory (1 ∷ [])) ((2, O) ∷ (1, S) ∷ [])
+    (Some (did (write 1 6) None))
     ∷ Raise 3
     ∷ Grant 3 3 7 0
-    ∷ Connect (connection 3 Urd 0 (Fixed I) (says 1 (answer S false false false) ∷ says 2 (answer O false true false) ∷ []))
-    ∷ data_of 3 Urd 0 (Board 2) no_takers ((3, I) ∷ (1, S) ∷ (2, O) ∷ []) (Some (did (read 0) (Some 5)))
+    ∷ Connect (connection 3 Urd 0 (Fixed I)
+    (says 1 (answer S false false false) ∷ says 2 (answer O false true false) ∷ []))
+    ∷ data_of 3 Urd 0 (Board 2) no_takers ((3, I) ∷ (1, S) ∷ (2, O) ∷ [])
+    (Some (did (read 0) (Some 5)))
     ∷ []
 
 abbrev pub broadcast_end : Configuration

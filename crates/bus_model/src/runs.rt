@@ -12,25 +12,36 @@ ghost use Rattle.bus_model.specs.WorkedRuns.{Plays, intervention, intervention_s
 ghost use Rattle.bus_model.specs.WorkedRoom.{write_through_word, write_through_word_schedule, write_through_word_events, write_through_word_end, victim_flush, victim_flush_schedule, victim_flush_events, victim_flush_end, given_up, given_up_schedule, given_up_events, given_up_end, alternation, alternation_schedule, alternation_events, alternation_end};
 ghost use Rattle.bus_model.specs.WorkedCopies.{clean_victim, clean_victim_schedule, clean_victim_events, clean_victim_end, captured, captured_schedule, captured_events, captured_end};
 
-/// Each small run is what the turns of its schedule do, and its setup is one of which the laws speak.
+/// Each small run is what the turns of its schedule do, and its setup is one of which the laws
+/// speak.
 pub fn small_runs_are_played()
-    ensures intervention { Plays intervention intervention_schedule intervention_events intervention_end }
+    ensures intervention { Plays intervention intervention_schedule intervention_events
+        intervention_end }
     ensures broadcast { Plays broadcast broadcast_schedule broadcast_events broadcast_end }
     ensures no_hit { Plays no_hit no_hit_schedule no_hit_events no_hit_end }
     ensures gap { Plays gap gap_schedule gap_events gap_end }
     ensures quiet_read { Plays quiet_read quiet_read_schedule quiet_read_events quiet_read_end }
-    ensures write_through_word { Plays write_through_word write_through_word_schedule write_through_word_events write_through_word_end }
-    ensures victim_flush { Plays victim_flush victim_flush_schedule victim_flush_events victim_flush_end }
+    ensures write_through_word { Plays write_through_word write_through_word_schedule
+        write_through_word_events write_through_word_end }
+    ensures victim_flush { Plays victim_flush victim_flush_schedule victim_flush_events
+        victim_flush_end }
     ensures given_up { Plays given_up given_up_schedule given_up_events given_up_end }
-    ensures alternation { Plays alternation alternation_schedule alternation_events alternation_end }
-    ensures clean_victim { Plays clean_victim clean_victim_schedule clean_victim_events clean_victim_end }
+    ensures alternation { Plays alternation alternation_schedule alternation_events
+        alternation_end }
+    ensures clean_victim { Plays clean_victim clean_victim_schedule clean_victim_events
+        clean_victim_end }
     ensures captured { Plays captured captured_schedule captured_events captured_end }
 {}
 
-/// A write to a line that is held waits for the board that is connected. While an owner intervenes memory serves no read,
-/// and the reply is the owner's word.
+/// A write to a line that is held waits for the board that is connected. While an owner intervenes
+/// memory serves no read, and the reply is the owner's word.
 pub fn small_runs_go_no_other_way()
     ensures waits { turn gap between_phases 1 ≡ Waits (LineHeld 2 0) }
-    ensures no_memory { (reply : Option ℕ) → ¬ (Can intervention intervening (data_of 2 Urd 1 Memory no_takers ((2, I) ∷ (1, M) ∷ []) (Some (did (read 5) reply)))) }
-    ensures no_stale_reply { ¬ (Can intervention intervening (data_of 2 Urd 1 (Board 1) no_takers ((2, I) ∷ (1, M) ∷ []) (Some (did (read 5) (Some 100))))) }
+    ensures no_memory { (reply : Option ℕ)
+        → ¬ (Can intervention intervening
+        (data_of 2 Urd 1 Memory no_takers ((2, I) ∷ (1, M) ∷ [])
+        (Some (did (read 5) reply)))) }
+    ensures no_stale_reply { ¬ (Can intervention intervening
+        (data_of 2 Urd 1 (Board 1) no_takers ((2, I) ∷ (1, M) ∷ [])
+        (Some (did (read 5) (Some 100))))) }
 {}

@@ -1,4 +1,5 @@
--- All bus events and all local events: each stands in its list, so what computes true over the list holds of every event.
+-- All bus events and all local events: each stands in its list, so what computes true over the list holds of every
+-- event.
 use Rattle.std.proofs.Common.{◌≡◌, ◌<◌, Bool, true, ltb, Some, length, refl, sym, ap, ◌∙◌}
 use Rattle.std.specs.Prelude.{◌==◌, slice_get}
 use Rattle.std.specs.List.{list_all, list_any}
@@ -37,7 +38,8 @@ pub any_bus : (test : BusEvent → Bool) (event : BusEvent) → test event ≡ t
 any_bus test event h = any_at test bus_events (event_number event) event h (bus_listed event)
 
 -- And the same of local events.
-pub each_local : (test : LocalEvent → Bool) → list_all test local_events ≡ true → (event : LocalEvent) → test event ≡ true
+pub each_local :
+    (test : LocalEvent → Bool) → list_all test local_events ≡ true → (event : LocalEvent) → test event ≡ true
 each_local test h event = each_at test local_events (local_number event) event h (local_listed event)
 
 pub any_local : (test : LocalEvent → Bool) (event : LocalEvent) → test event ≡ true → list_any test local_events ≡ true
@@ -49,7 +51,8 @@ some_same x y h = cc
 -- Events of one number are the same.
 pub same_event-eq : (a b : BusEvent) → same_event a b ≡ true → a ≡ b
 same_event-eq a b h =
-    some_same a b (sym (bus_listed a) ∙ ap (λ n. slice_get bus_events n) (eqb-true (event_number a) (event_number b) h) ∙ bus_listed b)
+    some_same a b (sym (bus_listed a) ∙ ap (λ n. slice_get bus_events n) (eqb-true (event_number a) (event_number b) h)
+    ∙ bus_listed b)
 
 -- Whether two local events are the same.
 abbrev pub same_kind : LocalEvent → LocalEvent → Bool
@@ -57,11 +60,16 @@ same_kind a b = local_number a == local_number b
 
 pub same_kind-eq : (a b : LocalEvent) → same_kind a b ≡ true → a ≡ b
 same_kind-eq a b h =
-    some_same a b (sym (local_listed a) ∙ ap (λ n. slice_get local_events n) (eqb-true (local_number a) (local_number b) h) ∙ local_listed b)
+    some_same a b (sym (local_listed a)
+    ∙ ap (λ n. slice_get local_events n) (eqb-true (local_number a) (local_number b) h) ∙ local_listed b)
 
 -- Each number is below the length of its list.
 pub bus_below : (event : BusEvent) → event_number event < length bus_events
-bus_below event = ltb-true (event_number event) (length bus_events) (each_bus (λ event. ltb (event_number event) (length bus_events)) refl event)
+bus_below event =
+    ltb-true (event_number event) (length bus_events)
+    (each_bus (λ event. ltb (event_number event) (length bus_events)) refl event)
 
 pub local_below : (event : LocalEvent) → local_number event < length local_events
-local_below event = ltb-true (local_number event) (length local_events) (each_local (λ event. ltb (local_number event) (length local_events)) refl event)
+local_below event =
+    ltb-true (local_number event) (length local_events)
+    (each_local (λ event. ltb (local_number event) (length local_events)) refl event)

@@ -11,4 +11,5 @@ BusEventsAreListed = (event : BusEvent) → slice_get bus_events (event_number e
 
 -- Each local event stands in the list at its number.
 abbrev pub LocalEventsAreListed : Type 0
-LocalEventsAreListed = (event : LocalEvent) → slice_get local_events (local_number event) ≡ Some event
+LocalEventsAreListed =
+    (event : LocalEvent) → slice_get local_events (local_number event) ≡ Some event

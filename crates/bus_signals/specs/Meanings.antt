@@ -1,4 +1,5 @@
--- What a bus event does, read from its row: from the signals CA, IM and BC, and from what is transferred.
+-- What a bus event does, read from its row: from the signals CA, IM and BC, and from what is
+-- transferred.
 use Rattle.std.specs.Prelude.{Bool, not, ◌&&◌, ◌||◌}
 use Rattle.bus_signals.specs.declared.Transfer.{Transfer}
 use Rattle.bus_signals.specs.declared.BusEvent.{BusEvent}
@@ -12,7 +13,8 @@ keeps_copy event = (row_of event).master.ca
 abbrev pub changes_line : BusEvent → Bool
 changes_line event = (row_of event).master.im
 
--- The master asserts BC: it broadcasts the word that it writes, and memory and each board that asserts SL take it.
+-- The master asserts BC: it broadcasts the word that it writes, and memory and each board that
+-- asserts SL take it.
 abbrev pub broadcasts : BusEvent → Bool
 broadcasts event = (row_of event).master.bc
 
@@ -52,11 +54,13 @@ invalidates event = takes_ownership event && not (broadcasts event)
 abbrev pub asks_hit : BusEvent → Bool
 asks_hit event = keeps_copy event && (not (changes_line event) || broadcasts event)
 
--- Another board can stay alone with the line where the master keeps no copy and does not write the line back: without CA, and where the transfer is no line.
+-- Another board can stay alone with the line where the master keeps no copy and does not write the
+-- line back: without CA, and where the transfer is no line.
 abbrev pub keeps_alone : BusEvent → Bool
 keeps_alone event = not (keeps_copy event) && not (writes_line event)
 
--- Another board that owns the line stays its owner where the master neither takes the line for its own nor writes it back.
+-- Another board that owns the line stays its owner where the master neither takes the line for its
+-- own nor writes it back.
 abbrev pub spares_owner : BusEvent → Bool
 spares_owner event = not (takes_ownership event) && not (writes_line event)
 

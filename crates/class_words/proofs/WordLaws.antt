@@ -16,7 +16,9 @@ use Rattle.moesi_state.specs.declared.Outcome.TheVariants.{Fixed, OnHit}
 use Rattle.class_words.specs.Words.{state_word, local_event_word, bus_event_word, outcome_word, state_of, local_event_of, bus_event_of, on_hit, is_on_hit, outcome_of, Reads}
 
 -- y was found at this name, or after it
-tried : {A : Type 0} (f : A → List ℕ) (w : List ℕ) (x y : A) (rest : Option A) → (rest ≡ Some y → w ≡ f y) → cond (bytes_eq w (f x)) (Some x) rest ≡ Some y → w ≡ f y
+tried :
+    {A : Type 0} (f : A → List ℕ) (w : List ℕ) (x y : A) (rest : Option A) → (rest ≡ Some y → w ≡ f y)
+    → cond (bytes_eq w (f x)) (Some x) rest ≡ Some y → w ≡ f y
 tried f w x y rest behind e =
     go (bytes_eq w (f x)) refl e
   where
@@ -30,18 +32,25 @@ nothing f w y e = absurd cc
 pub state_is : (w : List ℕ) (s : State) → state_of w ≡ Some s → w ≡ state_word s
 unfolding state_of
 state_is w s e =
-    tried state_word w M s _ (tried state_word w O s _ (tried state_word w E s _ (tried state_word w S s _ (tried state_word w I s _ (nothing state_word w s))))) e
+    tried state_word w M s _ (tried state_word w O s _
+    (tried state_word w E s _ (tried state_word w S s _ (tried state_word w I s _ (nothing state_word w s))))) e
 
 pub local_event_is : (w : List ℕ) (e : LocalEvent) → local_event_of w ≡ Some e → w ≡ local_event_word e
 unfolding local_event_of
 local_event_is w v e =
-    tried local_event_word w Read v _ (tried local_event_word w Write v _ (tried local_event_word w Pass v _ (tried local_event_word w Flush v _ (nothing local_event_word w v)))) e
+    tried local_event_word w Read v _
+    (tried local_event_word w Write v _
+    (tried local_event_word w Pass v _ (tried local_event_word w Flush v _ (nothing local_event_word w v)))) e
 
 pub bus_event_is : (w : List ℕ) (e : BusEvent) → bus_event_of w ≡ Some e → w ≡ bus_event_word e
 unfolding bus_event_of
 bus_event_is w v e =
-    tried bus_event_word w Rd v _ (tried bus_event_word w Rfo v _ (tried bus_event_word w Inv v _ (tried bus_event_word w Urd v _ (tried bus_event_word w Bwr v _
-    (tried bus_event_word w Uwr v _ (tried bus_event_word w Ubw v _ (tried bus_event_word w Pas v _ (tried bus_event_word w Flu v _ (nothing bus_event_word w v))))))))) e
+    tried bus_event_word w Rd v _
+    (tried bus_event_word w Rfo v _
+    (tried bus_event_word w Inv v _ (tried bus_event_word w Urd v _ (tried bus_event_word w Bwr v _
+    (tried bus_event_word w Uwr v _
+    (tried bus_event_word w Ubw v _
+    (tried bus_event_word w Pas v _ (tried bus_event_word w Flu v _ (nothing bus_event_word w v))))))))) e
 
 pub state_again : (s : State) → state_of (state_word s) ≡ Some s
 unfolding state_of
@@ -88,15 +97,20 @@ both_hold : (a b : Bool) → (a && b) ≡ true → (a ≡ true) × (b ≡ true)
 both_hold true b e = (refl, e)
 both_hold false b e = absurd cc
 
-on_hit_is : (a b : List ℕ) (o : Outcome) → on_hit (state_of a) (state_of b) ≡ Some o → codes "CH:" ++ (a ++ (codes "/" ++ b)) ≡ outcome_word o
+on_hit_is :
+    (a b : List ℕ) (o : Outcome) → on_hit (state_of a) (state_of b) ≡ Some o
+    → codes "CH:" ++ (a ++ (codes "/" ++ b)) ≡ outcome_word o
 on_hit_is a b o e = go (state_of a) (state_of b) refl refl e
   where
-    go : (x y : Option State) → state_of a ≡ x → state_of b ≡ y → on_hit x y ≡ Some o → codes "CH:" ++ (a ++ (codes "/" ++ b)) ≡ outcome_word o
+    go :
+        (x y : Option State) → state_of a ≡ x → state_of b ≡ y → on_hit x y ≡ Some o
+        → codes "CH:" ++ (a ++ (codes "/" ++ b)) ≡ outcome_word o
     go None y h k e = absurd cc
     go (Some s) None h k e = absurd cc
     go (Some s) (Some t) h k e =
         let same : OnHit s t ≡ o = cc in
-        subst (λ (z : Outcome). codes "CH:" ++ (a ++ (codes "/" ++ b)) ≡ outcome_word z) same (rw (state_is a s h, state_is b t k, append_assoc (state_word s) (codes "/") (state_word t)) refl)
+        subst (λ (z : Outcome). codes "CH:" ++ (a ++ (codes "/" ++ b)) ≡ outcome_word z) same
+        (rw (state_is a s h, state_is b t k, append_assoc (state_word s) (codes "/") (state_word t)) refl)
 
 fixed_is : (w : List ℕ) (o : Outcome) → option_map Fixed (state_of w) ≡ Some o → w ≡ outcome_word o
 fixed_is w o e = go (state_of w) refl e
@@ -109,9 +123,13 @@ pub outcome_is : (w : List ℕ) (o : Outcome) → outcome_of w ≡ Some o → w 
 unfolding outcome_of
 outcome_is w o e = go (is_on_hit w) refl e
   where
-    go : (b : Bool) → is_on_hit w ≡ b → cond b (on_hit (state_of (take 1 (drop 3 w))) (state_of (drop 5 w))) (option_map Fixed (state_of w)) ≡ Some o → w ≡ outcome_word o
+    go :
+        (b : Bool) → is_on_hit w ≡ b
+        → cond b (on_hit (state_of (take 1 (drop 3 w))) (state_of (drop 5 w))) (option_map Fixed (state_of w)) ≡ Some o
+        → w ≡ outcome_word o
     go true h e =
-        let two = both_hold (eqb (length w) 6 && bytes_eq (take 3 w) (codes "CH:")) (bytes_eq (take 1 (drop 4 w)) (codes "/")) h in
+        let two = both_hold (eqb (length w) 6 && bytes_eq (take 3 w) (codes "CH:"))
+        (bytes_eq (take 1 (drop 4 w)) (codes "/")) h in
         let one = both_hold (eqb (length w) 6) (bytes_eq (take 3 w) (codes "CH:")) two.0 in
         let front = is_word (take 3 w) (codes "CH:") one.1 in
         let slash = is_word (take 1 (drop 4 w)) (codes "/") two.1 in
@@ -154,7 +172,9 @@ outcome_again (OnHit I I) = refl
 -- ---- both ways at once
 
 -- What reads each written word as its value, and any word that it reads as that value alone.
-both_ways : {A : Type 0} (spelled : A → List ℕ) (f : List ℕ → Option A) → ((w : List ℕ) (x : A) → f w ≡ Some x → w ≡ spelled x) → ((x : A) → f (spelled x) ≡ Some x) → (w : List ℕ) (r : Option A) → r ≡ f w → Reads spelled w r
+both_ways :
+    {A : Type 0} (spelled : A → List ℕ) (f : List ℕ → Option A) → ((w : List ℕ) (x : A) → f w ≡ Some x → w ≡ spelled x)
+    → ((x : A) → f (spelled x) ≡ Some x) → (w : List ℕ) (r : Option A) → r ≡ f w → Reads spelled w r
 both_ways spelled f is again w r e = record {
   is = λ x h. is w x (sym e ∙ h);
   only = λ x h. e ∙ (ap f h ∙ again x);

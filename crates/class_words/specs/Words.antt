@@ -81,14 +81,20 @@ on_hit (Some hit) (Some miss) = Some (OnHit hit miss)
 
 -- Whether a word has the form of an outcome of two states.
 abbrev pub is_on_hit : List ℕ → Bool
-is_on_hit w = nat_eq (length w) 6 && bytes_eq (take 3 w) (codes "CH:") && bytes_eq (take 1 (drop 4 w)) (codes "/")
+is_on_hit w =
+    nat_eq (length w) 6 && bytes_eq (take 3 w) (codes "CH:")
+    && bytes_eq (take 1 (drop 4 w)) (codes "/")
 
 -- The outcome that a word spells.
 unfoldable pub outcome_of : List ℕ → Option Outcome
 outcome_of w =
-    if is_on_hit w then on_hit (state_of (take 1 (drop 3 w))) (state_of (drop 5 w)) else option_map Fixed (state_of w)
+    if is_on_hit w
+    then on_hit (state_of (take 1 (drop 3 w))) (state_of (drop 5 w))
+    else option_map Fixed (state_of w)
 
--- What was read from a word is the value that the word spells, and nothing was read exactly where it spells none.
-pub record Reads {A : Type 0} (spelled : A → List ℕ) (word : List ℕ) (result : Option A) : Type 0 where
-  pub is : (x : A) → result ≡ Some x → word ≡ spelled x
-  pub only : (x : A) → word ≡ spelled x → result ≡ Some x
+-- What was read from a word is the value that the word spells, and nothing was read exactly where
+-- it spells none.
+pub record Reads {A : Type 0} (spelled : A → List ℕ) (word : List ℕ) (result : Option A) : Type 0
+  where
+    pub is : (x : A) → result ≡ Some x → word ≡ spelled x
+    pub only : (x : A) → word ≡ spelled x → result ≡ Some x

@@ -1,4 +1,5 @@
-//! The words of states, outcomes and events, both ways. They are the same in tables, in traces and in reports.
+//! The words of states, outcomes and events, both ways. They are the same in tables, in traces and
+//! in reports.
 #![tactic(auto)]
 
 mod reading;

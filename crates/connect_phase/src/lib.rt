@@ -36,7 +36,10 @@ fn ask(
     requires board { IsBoard rack.now board }
     requires room { board ≢ master → length answers.old < 15 }
     requires above { AllBelow board (answer_boards answers.old) }
-    ensures answers { answers.new ≡ answers.old ++ map (answer_from rack.now line event) (filter (is_other_holder rack.now.rows master line) (board ∷ [])) }
+    ensures answers { answers.new
+        ≡ answers.old
+        ++ map (answer_from rack.now line event)
+        (filter (is_other_holder rack.now.rows master line) (board ∷ [])) }
     ensures one { length answers.new ≤ length answers.old + 1 }
     ensures none { board ≡ master → length answers.new ≤ length answers.old }
     ensures below { AllBelow (suc board) (answer_boards answers.new) }
@@ -50,7 +53,9 @@ fn ask(
 /// The answers of the other boards that hold a line, as each picks them.
 fn answers_to(rack: &Rack, master: BoardNo, line: LineNo, event: BusEvent) -> Answers
     requires { IsBoard rack.now master }
-    ensures { result ≡ map (answer_from rack.now line event) (other_holders (setup_of rack.now) rack.now.rows master line) }
+    ensures { result
+        ≡ map (answer_from rack.now line event)
+        (other_holders (setup_of rack.now) rack.now.rows master line) }
 {
     let mut answers = Answers::new();
     for place in 0..rack.boards() {
@@ -71,7 +76,8 @@ pub fn spend_all(rack: &mut Rack, answers: &[Answer])
     }
 }
 
-/// Connects a transaction: each other board that holds the line answers with what it picks, and spends a draw.
+/// Connects a transaction: each other board that holds the line answers with what it picks, and
+/// spends a draw.
 pub fn connect(
     rack: &mut Rack,
     master: BoardNo,
@@ -83,9 +89,13 @@ pub fn connect(
     requires draws { SpentBelow (2 ^ 63) rack.old.counts }
     ensures transaction { result ≡ connected_by rack.old master line event outcome }
     ensures draws { rack.new ≡ rack_answered rack.old result.answers }
-    ensures picks { (c : Configuration) → RackShows c rack.old → result ≡ transaction_of (setup_of rack.old) c master line event outcome }
-    ensures shows { (c : Configuration) → RackShows c rack.old → RackShows (with_answers c result) rack.new }
-    ensures fits { let others = other_holders (setup_of rack.old) rack.old.rows master line in AllCanAnswer (setup_of rack.old) rack.old.rows line event others → AnswersFit (setup_of rack.old) rack.old.rows line event others result.answers }
+    ensures picks { (c : Configuration) → RackShows c rack.old
+        → result ≡ transaction_of (setup_of rack.old) c master line event outcome }
+    ensures shows { (c : Configuration) → RackShows c rack.old
+        → RackShows (with_answers c result) rack.new }
+    ensures fits { let others = other_holders (setup_of rack.old) rack.old.rows master line in
+        AllCanAnswer (setup_of rack.old) rack.old.rows line event others
+        → AnswersFit (setup_of rack.old) rack.old.rows line event others result.answers }
 {
     let answers = answers_to(rack, master, line, event);
     spend_all(rack, answers.items());

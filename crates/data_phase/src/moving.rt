@@ -22,7 +22,9 @@ fn moved_words(rack: &Rack, memory: &MemoryBoard, connected: &Connected) -> [u32
     requires master { IsBoard rack.now connected.now.master }
     requires line { 4 * connected.now.line < length memory.now }
     requires others { AreOthers rack.now connected.now.master connected.now.answers }
-    ensures { result ≡ source_words (seen rack.now memory.now) connected.now.master connected.now.line (source_of connected.now.event connected.now.answers) }
+    ensures { result
+        ≡ source_words (seen rack.now memory.now) connected.now.master connected.now.line
+        (source_of connected.now.event connected.now.answers) }
 {
     match carried_source(connected) {
         Source::Nobody => copy_words(rack, connected.master, connected.line),
@@ -76,7 +78,8 @@ fn change_for(takers: &[BoardNo], change: Change, board: BoardNo) -> Change
     }
 }
 
-/// Each answering board takes the state of its answer, and those that take the written word take it.
+/// Each answering board takes the state of its answer, and those that take the written word take
+/// it.
 fn answer_all(rack: &mut Rack, line: LineNo, answers: &[Answer], takers: &[BoardNo], change: Change)
     requires { AllAreBoards rack.old answers.now }
     ensures { rack.new ≡ rack_given_all rack.old line takers.now change answers.now }
@@ -90,7 +93,10 @@ fn answer_all(rack: &mut Rack, line: LineNo, answers: &[Answer], takers: &[Board
 /// The words of the master after a data phase: what was moved, or its own, with the written word.
 fn own_words(rack: &Rack, connected: &Connected, moved: [u32; 4], done: &Option<Done>) -> [u32; 4]
     requires { IsBoard rack.now connected.now.master }
-    ensures { result ≡ written_by done.now (if fills_row connected.now.event then moved else words_at rack.now.rows connected.now.master connected.now.line) }
+    ensures { result
+        ≡ written_by done.now (if fills_row connected.now.event
+        then moved
+        else words_at rack.now.rows connected.now.master connected.now.line) }
 {
     if connected.event.fills_row() {
         written_by(done, moved)
@@ -108,7 +114,14 @@ fn remember(
     done: &Option<Done>,
 )
     requires { 4 * connected.now.line < length memory.old }
-    ensures { lines_of_words memory.new ≡ (if takes then slice_set (lines_of_words memory.old) connected.now.line (if writes_line connected.now.event then words else written_by done.now (memory_line (lines_of_words memory.old) connected.now.line)) else lines_of_words memory.old) }
+    ensures { lines_of_words memory.new
+        ≡ (if takes
+        then slice_set (lines_of_words memory.old) connected.now.line
+        (if writes_line connected.now.event
+        then words
+        else written_by done.now
+        (memory_line (lines_of_words memory.old) connected.now.line))
+        else lines_of_words memory.old) }
 {
     if !takes {
         return;
@@ -145,8 +158,8 @@ pub fn expected(
     }
 }
 
-/// Moves the words of a transaction and gives each board its new state. `access` is the access that the transaction serves,
-/// and none where it flushes a victim.
+/// Moves the words of a transaction and gives each board its new state. `access` is the access that
+/// the transaction serves, and none where it flushes a victim.
 pub fn transfer(
     rack: &mut Rack,
     memory: &mut MemoryBoard,
@@ -156,12 +169,17 @@ pub fn transfer(
     requires master { IsBoard rack.old connected.now.master }
     requires line { 4 * connected.now.line < length memory.old }
     requires others { AreOthers rack.old connected.now.master connected.now.answers }
-    requires room { IsFalse (has_row rack.old.rows connected.now.master connected.now.line) → IsTrue (holds (master_state connected.now)) → IsTrue (can_fill (setup_of rack.old) rack.old.rows connected.now.master connected.now.line) }
+    requires room { IsFalse (has_row rack.old.rows connected.now.master connected.now.line)
+        → IsTrue (holds (master_state connected.now))
+        → IsTrue
+        (can_fill (setup_of rack.old) rack.old.rows connected.now.master connected.now.line) }
     requires fills { (counts_at rack.old.counts connected.now.master).fills < 2 ^ 63 }
     ensures event { result ≡ carried_for (seen rack.old memory.old) connected.now access }
     ensures rack { rack.new ≡ rack_after rack.old memory.old result }
-    ensures memory { lines_of_words memory.new ≡ (after_data (seen rack.old memory.old) result).memory }
-    ensures shows { (c : Configuration) → Shows c rack.old memory.old → Shows (after_data c result) rack.new memory.new }
+    ensures memory { lines_of_words memory.new
+        ≡ (after_data (seen rack.old memory.old) result).memory }
+    ensures shows { (c : Configuration) → Shows c rack.old memory.old
+        → Shows (after_data c result) rack.new memory.new }
 {
     let master = connected.master;
     let line = connected.line;

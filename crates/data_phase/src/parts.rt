@@ -13,7 +13,8 @@ use journal::{Connected, Done, Places, Source, States, Takers};
 use memory_board::MemoryBoard;
 use moesi_state::State;
 
-/// Where the words of a transaction come from: a read gets them from the board that asserts DI, or else from memory.
+/// Where the words of a transaction come from: a read gets them from the board that asserts DI, or
+/// else from memory.
 pub fn carried_source(connected: &Connected) -> Source
     ensures { result ≡ source_of connected.now.event connected.now.answers }
 {
@@ -88,7 +89,8 @@ pub fn carried_takers(connected: &Connected) -> Takers
     }
 }
 
-/// The state of the master after a transaction: its outcome, settled by the or of CH over the answers.
+/// The state of the master after a transaction: its outcome, settled by the or of CH over the
+/// answers.
 pub fn settled_state(connected: &Connected) -> State
     ensures { result ≡ master_state connected.now }
 {

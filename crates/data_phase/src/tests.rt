@@ -54,7 +54,8 @@ fn write_through(alloc: Global, name: Name) -> Result<Table, Fail> {
 
 /// A board with one frame.
 fn small(number: u16) -> BoardSpec
-    ensures { result ≡ record { number = number; table = 0; shape = Shape.Cached 1 1; choose = Choose.First } }
+    ensures { result
+        ≡ record { number = number; table = 0; shape = Shape.Cached 1 1; choose = Choose.First } }
 {
     BoardSpec {
         number,
@@ -66,7 +67,21 @@ fn small(number: u16) -> BoardSpec
 
 /// A rack of two boards with one frame each.
 fn rack(alloc: Global) -> Result<Rack, Fail>
-    ensures { IfOk result (λ rack. rack.specs ≡ record { number = 10; table = 0; shape = Shape.Cached 1 1; choose = Choose.First } ∷ record { number = 9; table = 0; shape = Shape.Cached 1 1; choose = Choose.First } ∷ [] × rack.rows ≡ [] × rack.counts ≡ no_counts ∷ no_counts ∷ []) }
+    ensures { IfOk result (λ rack.
+        rack.specs
+        ≡ record {
+          number = 10;
+          table = 0;
+          shape = Shape.Cached 1 1;
+          choose = Choose.First;
+        }
+        ∷ record {
+          number = 9;
+          table = 0;
+          shape = Shape.Cached 1 1;
+          choose = Choose.First;
+        } ∷ [] × rack.rows ≡ []
+        × rack.counts ≡ no_counts ∷ no_counts ∷ []) }
 {
     let Some(name) = Name::of(b"wt") else {
         return Err(Fail::from("no name"));

@@ -7,8 +7,8 @@ use Rattle.fb_text.specs.Unread.{unread}
 use Rattle.fb_text.specs.Written.{line_bytes}
 use Rattle.trace_text.specs.Ranges.{InRange}
 use Rattle.trace_text.specs.Spelling.{line_of_event}
-use Rattle.trace_lines.specs.Lines.{trace_of, event_lines}
-use Rattle.trace_lines.proofs.Printing.{printed}
+use Rattle.replayer.specs.Lines.{trace_of, event_lines}
+use Rattle.replayer.proofs.Printing.{printed}
 use Rattle.setup_text.specs.Reading.{setup_at}
 use Rattle.bus_model.specs.Setup.{Setup}
 use Rattle.bus_model.specs.Events.{Event}

@@ -5,8 +5,8 @@ use Rattle.fb_text.specs.Unread.{unread}
 use Rattle.setup_text.specs.Reading.{setup_at}
 use Rattle.bus_model.specs.Setup.{Setup}
 use Rattle.backplane.specs.Machine.{Machine, configuration, opened}
-use Rattle.trace_lines.specs.declared.fault.ReplayFault.{ReplayFault}
-use Rattle.trace_lines.specs.declared.fault.ReplayFault.TheVariants.{Spelling, NotARun, Unfinished}
+use Rattle.replayer.specs.declared.fault.ReplayFault.{ReplayFault}
+use Rattle.replayer.specs.declared.fault.ReplayFault.TheVariants.{Spelling, NotARun, Unfinished}
 use Rattle.replayer.specs.Replaying.{replayed}
 use Rattle.replayer.specs.Standing.{Replaying, StandsFor}
 use Rattle.run_text.specs.RunText.{ending}

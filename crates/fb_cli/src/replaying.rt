@@ -21,7 +21,7 @@ use no_memory::NoMemory;
 use replayer::Replay;
 use setup::Setup;
 use std::alloc::Global;
-use trace_lines::ReplayFault;
+use replayer::ReplayFault;
 
 #[cfg(test)]
 mod tests;

@@ -11,7 +11,9 @@ words_append (w ∷ a) b = ap (λ (v : List Item). word w ∷ v) (words_append a
 
 pub lines_append : (a b : List Words) → lines_items (a ++ b) ≡ lines_items a ++ lines_items b
 lines_append [] b = refl
-lines_append (l ∷ a) b = ap (λ (v : List Item). line_items l ++ v) (lines_append a b) ∙ sym (append_assoc (line_items l) (lines_items a) (lines_items b))
+lines_append (l ∷ a) b =
+    ap (λ (v : List Item). line_items l ++ v) (lines_append a b)
+    ∙ sym (append_assoc (line_items l) (lines_items a) (lines_items b))
 
 pub lines_push : (a : List Words) (l : Words) → lines_items (a ++ l ∷ []) ≡ lines_items a ++ line_items l
 lines_push a l = lines_append a (l ∷ []) ∙ ap (λ (v : List Item). lines_items a ++ v) (append-nil (line_items l))
@@ -51,12 +53,19 @@ words_same (v ∷ a) (w ∷ b) e =
     ap (λ (u : List ℕ). u ∷ a) head ∙ ap (λ (u : Words). w ∷ u) (words_same a b rest)
 
 -- a place in a text has these lines and these words of its line before it, and no others
-pub same_place : (a b : List Words) (v w : Words) → lines_items a ++ map word v ≡ lines_items b ++ map word w → (a ≡ b) × (v ≡ w)
+pub same_place :
+    (a b : List Words) (v w : Words) → lines_items a ++ map word v ≡ lines_items b ++ map word w → (a ≡ b) × (v ≡ w)
 same_place [] [] v w e = (refl, words_same v w e)
-same_place [] (l ∷ b) v w e = absurd (words_no_line l v (lines_items b ++ map word w) (sym (append_assoc (line_items l) (lines_items b) (map word w)) ∙ sym e))
-same_place (l ∷ a) [] v w e = absurd (words_no_line l w (lines_items a ++ map word v) (sym (append_assoc (line_items l) (lines_items a) (map word v)) ∙ e))
+same_place [] (l ∷ b) v w e =
+    absurd (words_no_line l v (lines_items b ++ map word w)
+    (sym (append_assoc (line_items l) (lines_items b) (map word w)) ∙ sym e))
+same_place (l ∷ a) [] v w e =
+    absurd (words_no_line l w (lines_items a ++ map word v)
+    (sym (append_assoc (line_items l) (lines_items a) (map word v)) ∙ e))
 same_place (l ∷ a) (m ∷ b) v w e =
-    let both = cut_line l m (lines_items a ++ map word v) (lines_items b ++ map word w) (sym (append_assoc (line_items l) (lines_items a) (map word v)) ∙ (e ∙ append_assoc (line_items m) (lines_items b) (map word w))) in
+    let both = cut_line l m (lines_items a ++ map word v) (lines_items b ++ map word w)
+    (sym (append_assoc (line_items l) (lines_items a) (map word v))
+    ∙ (e ∙ append_assoc (line_items m) (lines_items b) (map word w))) in
     let others = same_place a b v w both.1 in
     (ap (λ (u : Words). u ∷ a) both.0 ∙ ap (λ (u : List Words). m ∷ u) others.0, others.1)
 
@@ -78,24 +87,37 @@ empty_or_last {X} (x ∷ xs) = elim (empty_or_last xs) [
 ]
 
 -- a word that stands last stands last on its line
-pub last_word : (earlier : List Words) (front : Words) (xs : List Item) (w : List ℕ) → lines_items earlier ++ map word front ≡ xs ++ word w ∷ [] → (p : Words) × (front ≡ p ++ w ∷ [])
+pub last_word :
+    (earlier : List Words) (front : Words) (xs : List Item) (w : List ℕ)
+    → lines_items earlier ++ map word front ≡ xs ++ word w ∷ [] → (p : Words) × (front ≡ p ++ w ∷ [])
 last_word earlier front xs w e = go (empty_or_last front) (empty_or_last earlier)
   where
-    go : (front ≡ []) ⊎ ((p : Words) × (v : List ℕ) × (front ≡ p ++ v ∷ [])) → (earlier ≡ []) ⊎ ((p : List Words) × (l : Words) × (earlier ≡ p ++ l ∷ [])) → (p : Words) × (front ≡ p ++ w ∷ [])
+    go :
+        (front ≡ []) ⊎ ((p : Words) × (v : List ℕ) × (front ≡ p ++ v ∷ []))
+        → (earlier ≡ []) ⊎ ((p : List Words) × (l : Words) × (earlier ≡ p ++ l ∷ []))
+        → (p : Words) × (front ≡ p ++ w ∷ [])
     go (inr (p, v, h)) any =
         let ends : lines_items earlier ++ map word front ≡ (lines_items earlier ++ map word p) ++ word v ∷ [] =
-        ap (λ (u : Words). lines_items earlier ++ map word u) h ∙ (ap (λ (u : List Item). lines_items earlier ++ u) (words_append p (v ∷ [])) ∙ sym (append_assoc (lines_items earlier) (map word p) (word v ∷ []))) in
-        let last : word v ≡ word w = snoc_last (lines_items earlier ++ map word p) xs (word v) (word w) (sym ends ∙ e) in
+        ap (λ (u : Words). lines_items earlier ++ map word u) h
+        ∙ (ap (λ (u : List Item). lines_items earlier ++ u) (words_append p (v ∷ []))
+        ∙ sym (append_assoc (lines_items earlier) (map word p) (word v ∷ []))) in
+        let last : word v ≡ word w =
+        snoc_last (lines_items earlier ++ map word p) xs (word v) (word w) (sym ends ∙ e) in
         let same : v ≡ w = cc in
         (p, h ∙ ap (λ (u : List ℕ). p ++ u ∷ []) same)
-    go (inl h) (inl k) = absurd (nothing xs (sym (ap (λ (u : List Words). lines_items u ++ map word front) k ∙ ap (λ (u : Words). map word u) h) ∙ e))
+    go (inl h) (inl k) =
+        absurd (nothing xs
+        (sym (ap (λ (u : List Words). lines_items u ++ map word front) k ∙ ap (λ (u : Words). map word u) h) ∙ e))
       where
         nothing : (xs : List Item) → [] ≡ xs ++ word w ∷ [] → ⊥
         nothing [] e = cc
         nothing (x ∷ xs) e = cc
     go (inl h) (inr (p, l, k)) =
         let ends : lines_items earlier ++ map word front ≡ (lines_items p ++ map word l) ++ line_end ∷ [] =
-        ap (λ (u : Words). lines_items earlier ++ map word u) h ∙ (append-nil (lines_items earlier) ∙ (ap lines_items k ∙ (lines_push p l ∙ sym (append_assoc (lines_items p) (map word l) (line_end ∷ []))))) in
+        ap (λ (u : Words). lines_items earlier ++ map word u) h
+        ∙ (append-nil (lines_items earlier)
+        ∙ (ap lines_items k
+        ∙ (lines_push p l ∙ sym (append_assoc (lines_items p) (map word l) (line_end ∷ []))))) in
         let last : line_end ≡ word w = snoc_last (lines_items p ++ map word l) xs line_end (word w) (sym ends ∙ e) in
         absurd cc
 
@@ -111,7 +133,9 @@ from None more = []
 from (Some w) more = w ∷ more
 
 -- a line of a text that begins so
-pub line_begins : (front : Words) (at : Option (List ℕ)) (more : List Item) (ws : Words) (ys : List Item) → line_items ws ++ ys ≡ map word front ++ item_at at ∷ more → (m : Words) × (ws ≡ front ++ from at m)
+pub line_begins :
+    (front : Words) (at : Option (List ℕ)) (more : List Item) (ws : Words) (ys : List Item)
+    → line_items ws ++ ys ≡ map word front ++ item_at at ∷ more → (m : Words) × (ws ≡ front ++ from at m)
 line_begins [] None more [] ys e = ([], refl)
 line_begins [] None more (w ∷ ws) ys e = absurd cc
 line_begins [] (Some v) more [] ys e = absurd cc
@@ -133,7 +157,8 @@ pub record SplitsWords (ws : Words) (b : List Item) (i : Item) (a : List Item) :
   pub before : b ≡ map word front
   pub item : i ≡ word here
 
-pub split_words : (ws : Words) (b : List Item) (i : Item) (a : List Item) → map word ws ≡ b ++ i ∷ a → SplitsWords ws b i a
+pub split_words :
+    (ws : Words) (b : List Item) (i : Item) (a : List Item) → map word ws ≡ b ++ i ∷ a → SplitsWords ws b i a
 split_words [] [] i a e = absurd cc
 split_words [] (x ∷ b) i a e = absurd cc
 split_words (w ∷ ws) [] i a e = record { front = []; here = w; back = ws; parts = refl; before = refl; item = cc }
@@ -150,7 +175,9 @@ split_words (w ∷ ws) (x ∷ b) i a e =
       item = s.item;
     }
 
-pub split_line : (ws : Words) (b : List Item) (i : Item) (a : List Item) → line_items ws ≡ b ++ i ∷ a → SplitsWords ws b i a ⊎ (i ≡ line_end)
+pub split_line :
+    (ws : Words) (b : List Item) (i : Item) (a : List Item) → line_items ws ≡ b ++ i ∷ a
+    → SplitsWords ws b i a ⊎ (i ≡ line_end)
 split_line [] [] i a e = inr cc
 split_line [] (x ∷ []) i a e = absurd cc
 split_line [] (x ∷ y ∷ b) i a e = absurd cc
@@ -176,7 +203,9 @@ pub record SplitsBehind {X : Type 0} (x y b : List X) (i : X) (a : List X) : Typ
   pub before : b ≡ x ++ front
   pub rest : y ≡ front ++ i ∷ a
 
-pub split_append : {X : Type 0} (x y b : List X) (i : X) (a : List X) → x ++ y ≡ b ++ i ∷ a → ((more : List X) × (x ≡ b ++ i ∷ more)) ⊎ SplitsBehind x y b i a
+pub split_append :
+    {X : Type 0} (x y b : List X) (i : X) (a : List X) → x ++ y ≡ b ++ i ∷ a
+    → ((more : List X) × (x ≡ b ++ i ∷ more)) ⊎ SplitsBehind x y b i a
 split_append [] y b i a e = inr (record { front = b; before = refl; rest = e })
 split_append {X} (v ∷ x) y [] i a e = let same : v ≡ i = cc in inl (x, ap (λ (u : X). u ∷ x) same)
 split_append {X} (v ∷ x) y (w ∷ b) i a e =
@@ -184,7 +213,11 @@ split_append {X} (v ∷ x) y (w ∷ b) i a e =
     let same : v ≡ w = cc in
     elim (split_append x y b i a rest) [
       | inl s ↦ inl (s.0, ap (λ (u : X). u ∷ x) same ∙ ap (λ (u : List X). w ∷ u) s.1)
-      | inr s ↦ inr (record { front = s.front; before = ap (λ (u : List X). w ∷ u) s.before ∙ ap (λ (u : X). u ∷ (x ++ s.front)) (sym same); rest = s.rest })
+      | inr s ↦ inr (record {
+        front = s.front;
+        before = ap (λ (u : List X). w ∷ u) s.before ∙ ap (λ (u : X). u ∷ (x ++ s.front)) (sym same);
+        rest = s.rest;
+      })
     ]
 
 -- ---- the places of a line
@@ -196,11 +229,15 @@ pub after_stop : ℕ → Option (List ℕ) → Words → List Place → List Pla
 after_stop n None r rest = rest
 after_stop n (Some w) r rest = line_places n r rest
 
-pub stop_splits : (n : ℕ) (front : Words) (at : Option (List ℕ)) (r : Words) (rest : List Place) → line_places n (front ++ from at r) rest ≡ front_places n front ++ record { line = n; item = item_at at } ∷ after_stop n at r rest
+pub stop_splits :
+    (n : ℕ) (front : Words) (at : Option (List ℕ)) (r : Words) (rest : List Place)
+    → line_places n (front ++ from at r) rest
+    ≡ front_places n front ++ record { line = n; item = item_at at } ∷ after_stop n at r rest
 unfolding after_stop
 stop_splits n [] None r rest = refl
 stop_splits n [] (Some w) r rest = refl
-stop_splits n (v ∷ front) at r rest = ap (λ (ps : List Place). record { line = n; item = word v } ∷ ps) (stop_splits n front at r rest)
+stop_splits n (v ∷ front) at r rest =
+    ap (λ (ps : List Place). record { line = n; item = word v } ∷ ps) (stop_splits n front at r rest)
 
 pub items_front : (n : ℕ) (front : Words) → items (front_places n front) ≡ map word front
 items_front n [] = refl

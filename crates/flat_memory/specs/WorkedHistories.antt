@@ -18,7 +18,8 @@ write_and_read value reply =
     ∷ record { board = 2; place = 1; access = Access.Read 1; reply = Some reply }
     ∷ []
 
--- Board 1 writes the words 7 and 8 to the address 1, and board 2 then reads the address and gets this reply.
+-- Board 1 writes the words 7 and 8 to the address 1, and board 2 then reads the address and gets
+-- this reply.
 abbrev pub two_writes_and_read : ℕ → List Entry
 two_writes_and_read reply =
     record { board = 1; place = 1; access = Access.Write 1 7; reply = None }

@@ -26,9 +26,14 @@ unfolding seeded_word
 drawn_word seed words = refl
 
 -- What a step of the generator gives.
-pub step_word : (seed words word : ℕ) (g h : Lcg) → (word, h) ≡ pcg32 g → g ≡ generator_after seed words → word ≡ seeded_word seed words
+pub step_word :
+    (seed words word : ℕ) (g h : Lcg) → (word, h) ≡ pcg32 g → g ≡ generator_after seed words
+    → word ≡ seeded_word seed words
 step_word seed words word g h step is = ap (λ (p : ℕ × Lcg). p.0) (step ∙ ap pcg32 is) ∙ drawn_word seed words
 
-pub step_next : (seed words word : ℕ) (g h : Lcg) → (word, h) ≡ pcg32 g → g ≡ generator_after seed words → h ≡ generator_after seed (words + 1)
+pub step_next :
+    (seed words word : ℕ) (g h : Lcg) → (word, h) ≡ pcg32 g → g ≡ generator_after seed words
+    → h ≡ generator_after seed (words + 1)
 step_next seed words word g h step is =
-    ap (λ (p : ℕ × Lcg). p.1) (step ∙ ap pcg32 is) ∙ next_generator seed words ∙ ap (generator_after seed) (sym (add-one words))
+    ap (λ (p : ℕ × Lcg). p.1) (step ∙ ap pcg32 is) ∙ next_generator seed words
+    ∙ ap (generator_after seed) (sym (add-one words))

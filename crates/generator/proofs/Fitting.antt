@@ -57,11 +57,14 @@ board_fits n place low high =
 
 all_numbers : (P : ℕ → Type 0) (n : ℕ) → ((k : ℕ) → 1 ≤ k → k ≤ n → P k) → All P (numbers_to n)
 all_numbers P zero each = All-nil P
-all_numbers P (suc n) each = All-push P (numbers_to n) (suc n) (all_numbers P n (λ k low high. each k low (omega (arith, high)))) (each (suc n) (omega arith) (omega arith))
+all_numbers P (suc n) each =
+    All-push P (numbers_to n) (suc n) (all_numbers P n (λ k low high. each k low (omega (arith, high))))
+    (each (suc n) (omega arith) (omega arith))
 
 number_at : (n i d : ℕ) → i < n → get_or (numbers_to n) i d ≡ i + 1
 number_at zero i d less = absurd (omega (arith, less))
-number_at (suc n) i d less = let long = length-numbers n in grind (arith, get_or_push, get_or_append_left, number_at n i d, long)
+number_at (suc n) i d less =
+    let long = length-numbers n in grind (arith, get_or_push, get_or_append_left, number_at n i d, long)
 
 numbers_differ : (n : ℕ) → AllPairs (λ (a b : BoardSpec). a.number ≢ b.number) (map (generated_board n) (numbers_to 16))
 numbers_differ n = λ i j d less within same.
@@ -71,8 +74,10 @@ numbers_differ n = λ i j d less within same.
     let inside_too : i < 16 = omega (arith, less, inside) in
     let at_i = get_or-map (generated_board n) (numbers_to 16) i 0 d (omega (arith, inside_too, short)) in
     let at_j = get_or-map (generated_board n) (numbers_to 16) j 0 d (omega (arith, inside, short)) in
-    let number_i : (get_or (map (generated_board n) (numbers_to 16)) i d).number ≡ 15 * (i + 1) = ap (λ (b : BoardSpec). b.number) at_i ∙ ap (λ k. 15 * k) (number_at 16 i 0 inside_too) in
-    let number_j : (get_or (map (generated_board n) (numbers_to 16)) j d).number ≡ 15 * (j + 1) = ap (λ (b : BoardSpec). b.number) at_j ∙ ap (λ k. 15 * k) (number_at 16 j 0 inside) in
+    let number_i : (get_or (map (generated_board n) (numbers_to 16)) i d).number ≡ 15 * (i + 1) =
+    ap (λ (b : BoardSpec). b.number) at_i ∙ ap (λ k. 15 * k) (number_at 16 i 0 inside_too) in
+    let number_j : (get_or (map (generated_board n) (numbers_to 16)) j d).number ≡ 15 * (j + 1) =
+    ap (λ (b : BoardSpec). b.number) at_j ∙ ap (λ k. 15 * k) (number_at 16 j 0 inside) in
     omega (arith, sym number_i ∙ same ∙ number_j, less)
 
 -- ---- the tables
@@ -86,18 +91,48 @@ apart a b x y first second other same = other (sym first ∙ ap (λ (name : List
 
 names_differ : AllPairs Differ generated_tables
 names_differ =
-    AllPairs-cons Differ copy_back (copy_back_update ∷ write_through ∷ uncached ∷ whole_class ∷ []) (All-from_recursion (Differ copy_back) (copy_back_update ∷ write_through ∷ uncached ∷ whole_class ∷ []) (apart copy_back copy_back_update 98 112 refl refl (λ h. omega (arith, h)), (apart copy_back write_through 98 116 refl refl (λ h. omega (arith, h)), (apart copy_back uncached 98 110 refl refl (λ h. omega (arith, h)), (apart copy_back whole_class 98 108 refl refl (λ h. omega (arith, h)), tt)))))
-    (AllPairs-cons Differ copy_back_update (write_through ∷ uncached ∷ whole_class ∷ []) (All-from_recursion (Differ copy_back_update) (write_through ∷ uncached ∷ whole_class ∷ []) (apart copy_back_update write_through 112 116 refl refl (λ h. omega (arith, h)), (apart copy_back_update uncached 112 110 refl refl (λ h. omega (arith, h)), (apart copy_back_update whole_class 112 108 refl refl (λ h. omega (arith, h)), tt))))
-    (AllPairs-cons Differ write_through (uncached ∷ whole_class ∷ []) (All-from_recursion (Differ write_through) (uncached ∷ whole_class ∷ []) (apart write_through uncached 116 110 refl refl (λ h. omega (arith, h)), (apart write_through whole_class 116 108 refl refl (λ h. omega (arith, h)), tt)))
-    (AllPairs-cons Differ uncached (whole_class ∷ []) (All-from_recursion (Differ uncached) (whole_class ∷ []) (apart uncached whole_class 110 108 refl refl (λ h. omega (arith, h)), tt))
-    (AllPairs-cons Differ whole_class [] (All-nil (Differ whole_class)) (λ i j d less within. absurd (omega (arith, within)))))))
+    AllPairs-cons Differ copy_back (copy_back_update ∷ write_through ∷ uncached ∷ whole_class ∷ [])
+    (All-from_recursion (Differ copy_back) (copy_back_update ∷ write_through ∷ uncached ∷ whole_class ∷ []) (
+      apart copy_back copy_back_update 98 112 refl refl (λ h. omega (arith, h)),
+      (
+        apart copy_back write_through 98 116 refl refl (λ h. omega (arith, h)),
+        (
+          apart copy_back uncached 98 110 refl refl (λ h. omega (arith, h)),
+          (apart copy_back whole_class 98 108 refl refl (λ h. omega (arith, h)), tt),
+        ),
+      ),
+    ))
+    (AllPairs-cons Differ copy_back_update (write_through ∷ uncached ∷ whole_class ∷ [])
+    (All-from_recursion (Differ copy_back_update) (write_through ∷ uncached ∷ whole_class ∷ []) (
+      apart copy_back_update write_through 112 116 refl refl (λ h. omega (arith, h)),
+      (
+        apart copy_back_update uncached 112 110 refl refl (λ h. omega (arith, h)),
+        (apart copy_back_update whole_class 112 108 refl refl (λ h. omega (arith, h)), tt),
+      ),
+    ))
+    (AllPairs-cons Differ write_through (uncached ∷ whole_class ∷ [])
+    (All-from_recursion (Differ write_through) (uncached ∷ whole_class ∷ []) (
+      apart write_through uncached 116 110 refl refl (λ h. omega (arith, h)),
+      (apart write_through whole_class 116 108 refl refl (λ h. omega (arith, h)), tt),
+    ))
+    (AllPairs-cons Differ uncached (whole_class ∷ [])
+    (All-from_recursion (Differ uncached) (whole_class ∷ [])
+    (apart uncached whole_class 110 108 refl refl (λ h. omega (arith, h)), tt))
+    (AllPairs-cons Differ whole_class [] (All-nil (Differ whole_class))
+    (λ i j d less within. absurd (omega (arith, within)))))))
 
 -- ---- the accesses
 
 address_of_kind : (kind address word : ℕ) → address_of (access_of_kind kind address word) ≡ address
 address_of_kind kind address word = go (nat_lt kind 8) (nat_lt kind 14) (kind == 14)
   where
-    go : (a b c : Bool) → address_of (if a then Access.Read address else (if b then Access.Write address word else (if c then Access.Pass address else Access.Flush address))) ≡ address
+    go :
+        (a b c : Bool)
+        → address_of (if a
+        then Access.Read address
+        else (if b
+        then Access.Write address word
+        else (if c then Access.Pass address else Access.Flush address))) ≡ address
     go true b c = refl
     go false true c = refl
     go false false true = refl
@@ -113,9 +148,13 @@ addresses_fit n (suc j) =
     let below = mod_below j 16 (omega arith) in
     let long = length-dealt n j in
     let script = get_or (dealt n j) (j % 16) [] in
-    let low : IsLow (generated_access n j) = subst (λ a. a < 256) (sym (address_of_kind (seeded_word n (3 * j) % 16) (seeded_word n (3 * j + 1) % 256) (seeded_word n (3 * j + 2)))) (mod_below (seeded_word n (3 * j + 1)) 256 (omega arith)) in
+    let low : IsLow (generated_access n j) =
+    subst (λ a. a < 256) (sym
+    (address_of_kind (seeded_word n (3 * j) % 16) (seeded_word n (3 * j + 1) % 256) (seeded_word n (3 * j + 2))))
+    (mod_below (seeded_word n (3 * j + 1)) 256 (omega arith)) in
     All-set (All IsLow) (dealt n j) (j % 16) (script ++ generated_access n j ∷ [])
-    (All-push IsLow script (generated_access n j) (All-get_or (All IsLow) (dealt n j) (j % 16) [] (omega (arith, below, long)) (addresses_fit n j)) low)
+    (All-push IsLow script (generated_access n j)
+    (All-get_or (All IsLow) (dealt n j) (j % 16) [] (omega (arith, below, long)) (addresses_fit n j)) low)
     (addresses_fit n j)
 
 pub count_dealt : (n accesses : ℕ) → sum_by (λ (script : List Access). length script) (dealt n accesses) ≡ accesses
@@ -126,7 +165,8 @@ count_dealt n (suc j) =
     let long = length-dealt n j in
     let script = get_or (dealt n j) (j % 16) [] in
     let more = length_push script (generated_access n j) in
-    let sum = sum_by-set (λ (s : List Access). length s) (dealt n j) (j % 16) (script ++ generated_access n j ∷ []) [] (omega (arith, below, long)) in
+    let sum = sum_by-set (λ (s : List Access). length s) (dealt n j) (j % 16) (script ++ generated_access n j ∷ []) []
+    (omega (arith, below, long)) in
     let before = count_dealt n j in
     omega (arith, sum, more, before)
 
@@ -140,7 +180,9 @@ generated_fits n = record {
   names = names_differ;
   boards_low = omega arith;
   boards_high = omega arith;
-  boards = All-map (BoardFits (generated n)) (generated_board n) (numbers_to 16) (all_numbers (λ place. BoardFits (generated n) (generated_board n place)) 16 (board_fits n));
+  boards =
+      All-map (BoardFits (generated n)) (generated_board n) (numbers_to 16)
+      (all_numbers (λ place. BoardFits (generated n) (generated_board n place)) 16 (board_fits n));
   numbers = numbers_differ n;
   scripts = length-dealt n 100000;
   addresses = addresses_fit n 100000;
@@ -149,12 +191,18 @@ generated_fits n = record {
 
 -- The parts that were made fit together.
 pub parts_fit : (n : ℕ) (memory : List ℕ) (tables : List Table) (boards : List BoardSpec) (scripts : List (List Access))
-    → memory ≡ replicate 256 0 → tables ≡ generated_tables → boards ≡ map (generated_board n) (numbers_to 16) → scripts ≡ dealt n 100000
+    → memory ≡ replicate 256 0 → tables ≡ generated_tables → boards ≡ map (generated_board n) (numbers_to 16)
+    → scripts ≡ dealt n 100000
     → WellFormed (record { memory = memory; tables = tables; boards = boards; scripts = scripts })
 parts_fit n memory tables boards scripts m t b s =
-    let same : generated n ≡ record { memory = memory; tables = tables; boards = boards; scripts = scripts } = λ i. record { memory = sym m i; tables = sym t i; boards = sym b i; scripts = sym s i } in
+    let same : generated n ≡ record { memory = memory; tables = tables; boards = boards; scripts = scripts } =
+    λ i. record { memory = sym m i; tables = sym t i; boards = sym b i; scripts = sym s i } in
     subst (λ (setup : Setup). WellFormed setup) same (generated_fits n)
 
 -- The tables are in the class.
 pub generated_in_class : (n : ℕ) → AllInClass (generated n)
-generated_in_class n = All-from_recursion InClass generated_tables (copy_back_accepted, (copy_back_update_accepted, (write_through_accepted, (uncached_accepted, (whole_class_accepted, tt)))))
+generated_in_class n =
+    All-from_recursion InClass generated_tables (
+      copy_back_accepted,
+      (copy_back_update_accepted, (write_through_accepted, (uncached_accepted, (whole_class_accepted, tt)))),
+    )

@@ -16,15 +16,20 @@ copy_back_made = refl
 pub copy_back_update_made : with_local_rows (copy_back_start (codes "up")) UPDATING_WRITES ≡ copy_back_update
 copy_back_update_made = refl
 
-pub write_through_made : with_answer_rows (with_local_rows (empty_table (codes "wt")) WRITE_THROUGH_LOCALS) WRITE_THROUGH_ANSWERS ≡ write_through
+pub write_through_made :
+    with_answer_rows (with_local_rows (empty_table (codes "wt")) WRITE_THROUGH_LOCALS) WRITE_THROUGH_ANSWERS
+    ≡ write_through
 write_through_made = refl
 
 pub uncached_made : with_answer_rows (with_local_rows (empty_table (codes "un")) UNCACHED_LOCALS) [] ≡ uncached
 uncached_made = refl
 
-pub whole_class_made : with_answer_rows (with_local_rows (empty_table (codes "class")) CLASS_LOCALS) CLASS_ANSWERS ≡ whole_class
+pub whole_class_made :
+    with_answer_rows (with_local_rows (empty_table (codes "class")) CLASS_LOCALS) CLASS_ANSWERS ≡ whole_class
 whole_class_made = refl
 
 -- A result that is one table is the other, where the two are the same.
-pub is_made : {E : Type 0} (result : Result Table E) (made known : Table) → made ≡ known → IfOk result (λ table. table ≡ made) → IfOk result (λ table. table ≡ known)
+pub is_made :
+    {E : Type 0} (result : Result Table E) (made known : Table) → made ≡ known → IfOk result (λ table. table ≡ made)
+    → IfOk result (λ table. table ≡ known)
 is_made result made known same is = subst (λ (t : Table). IfOk result (λ table. table ≡ t)) same is

@@ -13,7 +13,9 @@ length-dealt n zero = refl
 length-dealt n (suc j) = length-set (dealt n j) _ _ ∙ length-dealt n j
 
 -- One more access is dealt.
-pub dealt_more : (n j : ℕ) (access : Access) (before after : List (List Access)) → before ≡ dealt n j → access ≡ generated_access n j → after ≡ with_access before (j % 16) access → after ≡ dealt n (j + 1)
+pub dealt_more :
+    (n j : ℕ) (access : Access) (before after : List (List Access)) → before ≡ dealt n j → access ≡ generated_access n j
+    → after ≡ with_access before (j % 16) access → after ≡ dealt n (j + 1)
 unfolding dealt
 dealt_more n j access before after was is then =
     then
@@ -22,15 +24,19 @@ dealt_more n j access before after was is then =
     ∙ ap (dealt n) (sym (add-one j))
 
 -- The access that three words give.
-pub access_by_words : (a b z x y w : ℕ) → a ≡ x → b ≡ y → z ≡ w → access_of_kind (a % 16) (b % 256) z ≡ access_of_draws x y w
+pub access_by_words :
+    (a b z x y w : ℕ) → a ≡ x → b ≡ y → z ≡ w → access_of_kind (a % 16) (b % 256) z ≡ access_of_draws x y w
 access_by_words a b z x y w p q r = λ i. access_of_kind (p i % 16) (q i % 256) (r i)
 
 pub length-numbers : (n : ℕ) → length (numbers_to n) ≡ n
 length-numbers zero = refl
 length-numbers (suc n) = length_push (numbers_to n) (suc n) ∙ ap (λ k. k + 1) (length-numbers n) ∙ add-one n
 
-pub numbers_more : {X : Type 0} (f : ℕ → X) (n : ℕ) → map f (numbers_to (n + 1)) ≡ map f (numbers_to n) ++ f (n + 1) ∷ []
-numbers_more f n = ap (λ k. map f (numbers_to k)) (add-one n) ∙ map_push f (numbers_to n) (suc n) ∙ ap (λ k. map f (numbers_to n) ++ f k ∷ []) (sym (add-one n))
+pub numbers_more :
+    {X : Type 0} (f : ℕ → X) (n : ℕ) → map f (numbers_to (n + 1)) ≡ map f (numbers_to n) ++ f (n + 1) ∷ []
+numbers_more f n =
+    ap (λ k. map f (numbers_to k)) (add-one n) ∙ map_push f (numbers_to n) (suc n)
+    ∙ ap (λ k. map f (numbers_to n) ++ f k ∷ []) (sym (add-one n))
 
 pub replicate_one_more : {X : Type 0} (n : ℕ) (x : X) → replicate (n + 1) x ≡ replicate n x ++ x ∷ []
 replicate_one_more n x = sym (replicate-append-replicate n 1 x)
@@ -40,9 +46,14 @@ unfolding dealt
 dealt_none n = refl
 
 -- Where an access is pushed at the end of one of the scripts.
-pub push_access : (scripts : List (Vec Access Global)) (index : ℕ) (access : Access) (old new : Vec Access Global) → index < length scripts → old ≡ get_or scripts index old → new.items ≡ old.items ++ access ∷ []
+pub push_access :
+    (scripts : List (Vec Access Global)) (index : ℕ) (access : Access) (old new : Vec Access Global)
+    → index < length scripts → old ≡ get_or scripts index old → new.items ≡ old.items ++ access ∷ []
     → rows (set scripts index new) ≡ with_access (rows scripts) index access
 push_access scripts index access old new within is pushed =
     let was = get_or-map (λ (v : Vec Access Global). v.items) scripts index old [] within in
     let put = map-set (λ (v : Vec Access Global). v.items) scripts index new in
-    put ∙ ap (λ (xs : List Access). set (rows scripts) index xs) (pushed ∙ ap (λ (v : Vec Access Global). v.items ++ access ∷ []) is ∙ ap (λ (xs : List Access). xs ++ access ∷ []) (sym was))
+    put
+    ∙ ap (λ (xs : List Access). set (rows scripts) index xs)
+    (pushed ∙ ap (λ (v : Vec Access Global). v.items ++ access ∷ []) is
+    ∙ ap (λ (xs : List Access). xs ++ access ∷ []) (sym was))

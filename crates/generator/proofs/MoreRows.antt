@@ -15,12 +15,15 @@ both_second : (a b : Bool) → a && b ≡ true → b ≡ true
 both_second true b h = h
 both_second false b h = cc
 
-local_rows_more : (table : Table) (rows more : List LocalRow) → with_local_rows table (rows ++ more) ≡ with_local_rows (with_local_rows table rows) more
+local_rows_more :
+    (table : Table) (rows more : List LocalRow)
+    → with_local_rows table (rows ++ more) ≡ with_local_rows (with_local_rows table rows) more
 local_rows_more table [] more = refl
 local_rows_more table (row ∷ rows) more = local_rows_more (with_local_row table row) rows more
 
 pub local_rows_step : (start table next : Table) (rows : List LocalRow) (i : ℕ) (d : LocalRow)
-    → i < length rows → table ≡ with_local_rows start (take i rows) → next ≡ with_local_rows table (get_or rows i d ∷ []) → next ≡ with_local_rows start (take (i + 1) rows)
+    → i < length rows → table ≡ with_local_rows start (take i rows)
+    → next ≡ with_local_rows table (get_or rows i d ∷ []) → next ≡ with_local_rows start (take (i + 1) rows)
 local_rows_step start table next rows i d within before added =
     added
     ∙ ap (λ (t : Table). with_local_rows t (get_or rows i d ∷ [])) before
@@ -32,22 +35,30 @@ pub local_first_fits : (table : Table) (rows : List LocalRow) (i : ℕ) (d : Loc
     → i < length rows → local_rows_fit table (drop i rows) ≡ true → local_rows_fit table (get_or rows i d ∷ []) ≡ true
 local_first_fits table rows i d within fits =
     let row = get_or rows i d in
-    both_first (nat_lt (length (locals_of table row.0 row.1)) most_alternatives) (local_rows_fit (with_local_row table row) (drop (suc i) rows)) (ap (local_rows_fit table) (sym (drop-cons rows i d within)) ∙ fits)
+    both_first (nat_lt (length (locals_of table row.0 row.1)) most_alternatives)
+    (local_rows_fit (with_local_row table row) (drop (suc i) rows))
+    (ap (local_rows_fit table) (sym (drop-cons rows i d within)) ∙ fits)
 
 pub local_rest_fits : (table next : Table) (rows : List LocalRow) (i : ℕ) (d : LocalRow)
-    → i < length rows → local_rows_fit table (drop i rows) ≡ true → next ≡ with_local_rows table (get_or rows i d ∷ []) → local_rows_fit next (drop (i + 1) rows) ≡ true
+    → i < length rows → local_rows_fit table (drop i rows) ≡ true → next ≡ with_local_rows table (get_or rows i d ∷ [])
+    → local_rows_fit next (drop (i + 1) rows) ≡ true
 local_rest_fits table next rows i d within fits added =
     let row = get_or rows i d in
     ap (λ (t : Table). local_rows_fit t (drop (i + 1) rows)) added
     ∙ ap (λ n. local_rows_fit (with_local_row table row) (drop n rows)) (add-one i)
-    ∙ both_second (nat_lt (length (locals_of table row.0 row.1)) most_alternatives) (local_rows_fit (with_local_row table row) (drop (suc i) rows)) (ap (local_rows_fit table) (sym (drop-cons rows i d within)) ∙ fits)
+    ∙ both_second (nat_lt (length (locals_of table row.0 row.1)) most_alternatives)
+    (local_rows_fit (with_local_row table row) (drop (suc i) rows))
+    (ap (local_rows_fit table) (sym (drop-cons rows i d within)) ∙ fits)
 
-answer_rows_more : (table : Table) (rows more : List AnswerRow) → with_answer_rows table (rows ++ more) ≡ with_answer_rows (with_answer_rows table rows) more
+answer_rows_more :
+    (table : Table) (rows more : List AnswerRow)
+    → with_answer_rows table (rows ++ more) ≡ with_answer_rows (with_answer_rows table rows) more
 answer_rows_more table [] more = refl
 answer_rows_more table (row ∷ rows) more = answer_rows_more (with_answer_row table row) rows more
 
 pub answer_rows_step : (start table next : Table) (rows : List AnswerRow) (i : ℕ) (d : AnswerRow)
-    → i < length rows → table ≡ with_answer_rows start (take i rows) → next ≡ with_answer_rows table (get_or rows i d ∷ []) → next ≡ with_answer_rows start (take (i + 1) rows)
+    → i < length rows → table ≡ with_answer_rows start (take i rows)
+    → next ≡ with_answer_rows table (get_or rows i d ∷ []) → next ≡ with_answer_rows start (take (i + 1) rows)
 answer_rows_step start table next rows i d within before added =
     added
     ∙ ap (λ (t : Table). with_answer_rows t (get_or rows i d ∷ [])) before
@@ -59,12 +70,17 @@ pub answer_first_fits : (table : Table) (rows : List AnswerRow) (i : ℕ) (d : A
     → i < length rows → answer_rows_fit table (drop i rows) ≡ true → answer_rows_fit table (get_or rows i d ∷ []) ≡ true
 answer_first_fits table rows i d within fits =
     let row = get_or rows i d in
-    both_first (nat_lt (length (answers_of table row.0 row.1)) most_alternatives) (answer_rows_fit (with_answer_row table row) (drop (suc i) rows)) (ap (answer_rows_fit table) (sym (drop-cons rows i d within)) ∙ fits)
+    both_first (nat_lt (length (answers_of table row.0 row.1)) most_alternatives)
+    (answer_rows_fit (with_answer_row table row) (drop (suc i) rows))
+    (ap (answer_rows_fit table) (sym (drop-cons rows i d within)) ∙ fits)
 
 pub answer_rest_fits : (table next : Table) (rows : List AnswerRow) (i : ℕ) (d : AnswerRow)
-    → i < length rows → answer_rows_fit table (drop i rows) ≡ true → next ≡ with_answer_rows table (get_or rows i d ∷ []) → answer_rows_fit next (drop (i + 1) rows) ≡ true
+    → i < length rows → answer_rows_fit table (drop i rows) ≡ true
+    → next ≡ with_answer_rows table (get_or rows i d ∷ []) → answer_rows_fit next (drop (i + 1) rows) ≡ true
 answer_rest_fits table next rows i d within fits added =
     let row = get_or rows i d in
     ap (λ (t : Table). answer_rows_fit t (drop (i + 1) rows)) added
     ∙ ap (λ n. answer_rows_fit (with_answer_row table row) (drop n rows)) (add-one i)
-    ∙ both_second (nat_lt (length (answers_of table row.0 row.1)) most_alternatives) (answer_rows_fit (with_answer_row table row) (drop (suc i) rows)) (ap (answer_rows_fit table) (sym (drop-cons rows i d within)) ∙ fits)
+    ∙ both_second (nat_lt (length (answers_of table row.0 row.1)) most_alternatives)
+    (answer_rows_fit (with_answer_row table row) (drop (suc i) rows))
+    (ap (answer_rows_fit table) (sym (drop-cons rows i d within)) ∙ fits)

@@ -7,24 +7,28 @@ use Rattle.table_check.specs.KnownTables.{uncached, copy_back, copy_back_update,
 use Rattle.bus_model.specs.Setup.{Setup, BoardSpec, Shape, Plain, Cached, Seed}
 use Rattle.bus_model.specs.Turns.{seeded_word}
 
--- The access of a kind from 0 to 15: eight kinds read, six write this word, one passes and one flushes.
+-- The access of a kind from 0 to 15: eight kinds read, six write this word, one passes and one
+-- flushes.
 abbrev pub access_of_kind : ℕ → ℕ → ℕ → Access
 access_of_kind kind address word =
     if nat_lt kind 8 then Read address else
     (if nat_lt kind 14 then Write address word else
     (if kind == 14 then Pass address else Flush address))
 
--- The access that three draws give: the first its kind, the second its address, and the third the word of a write.
+-- The access that three draws give: the first its kind, the second its address, and the third the
+-- word of a write.
 abbrev pub access_of_draws : ℕ → ℕ → ℕ → Access
 access_of_draws x y z = access_of_kind (x % 16) (y % 256) z
 
 -- The access of this index, counted from 0: each takes the next three words of the seed.
 abbrev pub generated_access : ℕ → ℕ → Access
-generated_access n j = access_of_draws (seeded_word n (3 * j)) (seeded_word n (3 * j + 1)) (seeded_word n (3 * j + 2))
+generated_access n j =
+    access_of_draws (seeded_word n (3 * j)) (seeded_word n (3 * j + 1)) (seeded_word n (3 * j + 2))
 
 -- The scripts with one more access at the end of the one at this index.
 abbrev pub with_access : List (List Access) → ℕ → Access → List (List Access)
-with_access scripts index access = slice_set scripts index (slice_index_or scripts index [] ++ access ∷ [])
+with_access scripts index access =
+    slice_set scripts index (slice_index_or scripts index [] ++ access ∷ [])
 
 -- The scripts of sixteen boards after so many accesses were dealt, one to each board in turn.
 unfoldable pub dealt : ℕ → ℕ → List (List Access)

@@ -1,7 +1,7 @@
 //! Generated input: a setup for each number, and a schedule for each number.
 //!
-//! Both are drawn from the words of the generator `Lcg64Xsh32` made of the number. `specs/Generated.antt` has the setup, and
-//! `specs/Schedule.antt` the schedule.
+//! Both are drawn from the words of the generator `Lcg64Xsh32` made of the number.
+//! `specs/Generated.antt` has the setup, and `specs/Schedule.antt` the schedule.
 #![tactic(auto)]
 
 mod laws;

@@ -80,8 +80,12 @@ fn access_of_kind(kind: u32, addr: Addr, word: u32) -> Access
 
 /// The access that the next three words give.
 fn next_access(generator: &mut Lcg64Xsh32) -> Access
-    ensures access { (seed words : ℕ) → generator.old ≡ generator_after seed words → result ≡ access_of_draws (seeded_word seed words) (seeded_word seed (words + 1)) (seeded_word seed (words + 2)) }
-    ensures next { (seed words : ℕ) → generator.old ≡ generator_after seed words → generator.new ≡ generator_after seed (words + 3) }
+    ensures access { (seed words : ℕ) → generator.old ≡ generator_after seed words
+        → result
+        ≡ access_of_draws (seeded_word seed words) (seeded_word seed (words + 1))
+        (seeded_word seed (words + 2)) }
+    ensures next { (seed words : ℕ) → generator.old ≡ generator_after seed words
+        → generator.new ≡ generator_after seed (words + 3) }
 {
     let x = next_word(generator);
     let y = next_word(generator);
@@ -113,7 +117,8 @@ fn empty_scripts(alloc: Global) -> Result<Vec<Vec<Access>>, NoMemory>
 /// Appends an access to the script at an index.
 fn deal(scripts: &mut Vec<Vec<Access>>, index: usize, access: Access) -> Result<(), NoMemory>
     requires { index < length (rows scripts.old.items) }
-    ensures { OnOk result (rows scripts.new.items ≡ with_access (rows scripts.old.items) index access) }
+    ensures { OnOk result
+        (rows scripts.new.items ≡ with_access (rows scripts.old.items) index access) }
 {
     match scripts[index].push(access) {
         Ok(()) => Ok(()),
@@ -134,8 +139,8 @@ fn scripts(alloc: Global, n: u64) -> Result<Vec<Vec<Access>>, NoMemory>
     Ok(scripts)
 }
 
-/// The generated setup of a number: 64 lines of 0, five tables, 16 boards, and 100,000 accesses that are drawn from the
-/// number.
+/// The generated setup of a number: 64 lines of 0, five tables, 16 boards, and 100,000 accesses
+/// that are drawn from the number.
 pub fn make_setup(alloc: Global, n: u64) -> Result<Setup, NoMemory>
     ensures { IfOk result (λ setup. setup ≡ generated n) }
 {

@@ -10,11 +10,13 @@ use class_relation::{LocalAction, PushFault, SnoopAction, Table};
 use moesi_state::{Outcome, State};
 use no_memory::NoMemory;
 
-/// An alternative of a local event: the state, the event, the outcome, and the transaction that it needs.
+/// An alternative of a local event: the state, the event, the outcome, and the transaction that it
+/// needs.
 #[derive(Clone, Copy)]
 pub struct LocalRow(pub State, pub LocalEvent, pub Outcome, pub Option<BusEvent>);
 
-/// An alternative of a bus event: the state, the event, the state after it, and the signals asserted.
+/// An alternative of a bus event: the state, the event, the state after it, and the signals
+/// asserted.
 #[derive(Clone, Copy)]
 pub struct AnswerRow(pub State, pub BusEvent, pub State, pub Response);
 

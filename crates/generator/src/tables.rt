@@ -280,8 +280,11 @@ fn table_of(
 ) -> Result<Table, NoMemory>
     requires name { is_name name.now ≡ true }
     requires locals { local_rows_fit (empty_table name.now) locals.now ≡ true }
-    requires answers { answer_rows_fit (with_local_rows (empty_table name.now) locals.now) answers.now ≡ true }
-    ensures { IfOk result (λ table. table ≡ with_answer_rows (with_local_rows (empty_table name.now) locals.now) answers.now) }
+    requires answers { answer_rows_fit (with_local_rows (empty_table name.now) locals.now)
+        answers.now ≡ true }
+    ensures { IfOk result (λ table.
+        table
+        ≡ with_answer_rows (with_local_rows (empty_table name.now) locals.now) answers.now) }
 {
     let mut table = named(alloc, name);
     add_locals(&mut table, locals)?;
@@ -292,8 +295,14 @@ fn table_of(
 /// The table of a copy-back board with these writes to lines that others may hold.
 fn copy_back_of(alloc: Global, name: &str, writes: &[LocalRow]) -> Result<Table, NoMemory>
     requires name { is_name name.now ≡ true }
-    requires writes { local_rows_fit (with_answer_rows (with_local_rows (empty_table name.now) COPY_BACK_LOCALS) COPY_BACK_ANSWERS) writes.now ≡ true }
-    ensures { IfOk result (λ table. table ≡ with_local_rows (with_answer_rows (with_local_rows (empty_table name.now) COPY_BACK_LOCALS) COPY_BACK_ANSWERS) writes.now) }
+    requires writes { local_rows_fit (with_answer_rows
+        (with_local_rows (empty_table name.now) COPY_BACK_LOCALS) COPY_BACK_ANSWERS)
+        writes.now ≡ true }
+    ensures { IfOk result (λ table.
+        table
+        ≡ with_local_rows (with_answer_rows
+        (with_local_rows (empty_table name.now) COPY_BACK_LOCALS)
+        COPY_BACK_ANSWERS) writes.now) }
 {
     let mut table = table_of(alloc, name, &COPY_BACK_LOCALS, &COPY_BACK_ANSWERS)?;
     add_locals(&mut table, writes)?;

@@ -1,5 +1,5 @@
-//! Known parts of generated setups and schedules. The expected values were worked out apart from this program, by the rule
-//! of the generator.
+//! Known parts of generated setups and schedules. The expected values were worked out apart from
+//! this program, by the rule of the generator.
 
 ghost use Rattle.std.specs.Prelude.{◌≤◌, length};
 

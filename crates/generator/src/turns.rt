@@ -8,7 +8,8 @@ use crate::words::{next_word, seeded};
 use rand_pcg::Lcg64Xsh32;
 use std::marker::Model;
 
-/// The turns that are left of a seeded schedule. Contracts see it as the list of the boards that have these turns.
+/// The turns that are left of a seeded schedule. Contracts see it as the list of the boards that
+/// have these turns.
 #[derive(Drop)]
 pub struct SeededTurns {
     generator: Lcg64Xsh32,
@@ -28,7 +29,8 @@ impl Model for SeededTurns {
 }
 
 impl SeededTurns {
-    /// The seeded schedule of a number, for a setup with so many boards and accesses: 16 turns for each access.
+    /// The seeded schedule of a number, for a setup with so many boards and accesses: 16 turns for
+    /// each access.
     pub fn new(n: u64, boards: u8, accesses: u32) -> SeededTurns
         requires { 1 ≤ boards }
         ensures turns { result ≡ seeded_turns n boards accesses }

@@ -19,8 +19,10 @@ pub fn seeded(seed: u64) -> Lcg64Xsh32
 /// The next word of a generator.
 pub fn next_word(generator: &mut Lcg64Xsh32) -> u32
     ensures step { (result, generator.new) ≡ pcg32 generator.old }
-    ensures word { (seed words : ℕ) → generator.old ≡ generator_after seed words → result ≡ seeded_word seed words }
-    ensures next { (seed words : ℕ) → generator.old ≡ generator_after seed words → generator.new ≡ generator_after seed (words + 1) }
+    ensures word { (seed words : ℕ) → generator.old ≡ generator_after seed words
+        → result ≡ seeded_word seed words }
+    ensures next { (seed words : ℕ) → generator.old ≡ generator_after seed words
+        → generator.new ≡ generator_after seed (words + 1) }
 {
     generator.next_word()
 }

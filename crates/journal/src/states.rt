@@ -8,7 +8,8 @@ use bus_signals::BoardNo;
 use moesi_state::State;
 use std::marker::Model;
 
-/// At most 16 boards with their states, the master first and the others strictly rising. Contracts see them as a list.
+/// At most 16 boards with their states, the master first and the others strictly rising. Contracts
+/// see them as a list.
 #[derive(Clone, Drop)]
 pub struct States {
     items: [(BoardNo, State); 16],

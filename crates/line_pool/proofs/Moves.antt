@@ -33,14 +33,23 @@ module _ (order place : List ℕ) (words : List (List ℕ)) (free : ℕ) (kept :
       let high = kept.is_order.places frame (out_inside frame out) in
       omega (arith, low, high)
 
-  pub given : (frame : ℕ) (moved : List ℕ) → IsOut (shown place words free) frame → moved ≡ slice_set (slice_set place (slice_index order free) (slice_index place frame)) frame free → shown moved words (free + 1) ≡ with_out (shown place words free) frame false
+  pub given :
+      (frame : ℕ) (moved : List ℕ) → IsOut (shown place words free) frame
+      → moved ≡ slice_set (slice_set place (slice_index order free) (slice_index place frame)) frame free
+      → shown moved words (free + 1) ≡ with_out (shown place words free) frame false
   given frame moved out is =
       ap (λ p. shown p words (free + 1)) is
-      ∙ ap (λ (o : List Bool). record { out = o; words = words }) (out_given order place kept.is_order free frame (out_high frame out) (out_inside frame out) (out_some frame out))
+      ∙ ap (λ (o : List Bool). record { out = o; words = words })
+      (out_given order place kept.is_order free frame (out_high frame out) (out_inside frame out)
+      (out_some frame out))
 
-  pub given_count : (frame : ℕ) (moved : List ℕ) → IsOut (shown place words free) frame → moved ≡ slice_set (slice_set place (slice_index order free) (slice_index place frame)) frame free → count_out (out_of moved (free + 1)) + 1 ≡ count_out (out_of place free)
+  pub given_count :
+      (frame : ℕ) (moved : List ℕ) → IsOut (shown place words free) frame
+      → moved ≡ slice_set (slice_set place (slice_index order free) (slice_index place frame)) frame free
+      → count_out (out_of moved (free + 1)) + 1 ≡ count_out (out_of place free)
   given_count frame moved out is =
-      ap (λ (p : Pool). count_out p.out + 1) (given frame moved out is) ∙ count_given (out_of place free) frame out.inside out.taken
+      ap (λ (p : Pool). count_out p.out + 1) (given frame moved out is)
+      ∙ count_given (out_of place free) frame out.inside out.taken
 
   -- ---- the last frame that is free
 
@@ -54,16 +63,22 @@ module _ (order place : List ℕ) (words : List (List ℕ)) (free : ℕ) (kept :
       let wide = kept.is_order.long in
       record {
         inside = omega (arith, here, l);
-        left = out_at place free (slice_index order (free - 1)) false (omega (arith, here, wide)) ∙ lt-leb free (slice_index place (slice_index order (free - 1))) (omega (arith, at, some));
+        left =
+            out_at place free (slice_index order (free - 1)) false (omega (arith, here, wide))
+            ∙ lt-leb free (slice_index place (slice_index order (free - 1))) (omega (arith, at, some));
       }
 
-  pub taken : 0 < free → shown place words (free - 1) ≡ with_out (shown place words free) (slice_index order (free - 1)) true
-  taken some = ap (λ (o : List Bool). record { out = o; words = words }) (out_taken order place kept.is_order free some kept.within)
+  pub taken :
+      0 < free → shown place words (free - 1) ≡ with_out (shown place words free) (slice_index order (free - 1)) true
+  taken some =
+      ap (λ (o : List Bool). record { out = o; words = words })
+      (out_taken order place kept.is_order free some kept.within)
 
   pub taken_count : 0 < free → count_out (out_of place (free - 1)) ≡ count_out (out_of place free) + 1
   taken_count some =
       let frame = last_free some in
-      ap (λ (p : Pool). count_out p.out) (taken some) ∙ count_taken (out_of place free) (slice_index order (free - 1)) frame.inside frame.left
+      ap (λ (p : Pool). count_out p.out) (taken some)
+      ∙ count_taken (out_of place free) (slice_index order (free - 1)) frame.inside frame.left
 
   pub not_all_out : 0 < free → AllOut (shown place words free) → ⊥
   not_all_out some all =
@@ -74,7 +89,11 @@ module _ (order place : List ℕ) (words : List (List ℕ)) (free : ℕ) (kept :
   pub all_out : free ≡ 0 → AllOut (shown place words free)
   all_out none frame inside =
       let wide = length-map place (λ p. nat_le free p) in
-      record { inside = inside; taken = out_at place free frame false (omega (arith, inside, wide)) ∙ le-leb free (slice_index place frame) (omega (arith, none)) }
+      record {
+        inside = inside;
+        taken = out_at place free frame false (omega (arith, inside, wide))
+            ∙ le-leb free (slice_index place frame) (omega (arith, none));
+      }
 
 -- An element that is there does not depend on what stands for none.
 pub same_element : (xs : List ℕ) (i d : ℕ) → i < length xs → slice_index_or xs i d ≡ slice_index xs i

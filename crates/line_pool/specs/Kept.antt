@@ -1,4 +1,5 @@
--- How a pool is kept: the frames in an order, in which the free ones come first, and the place of each frame in this order.
+-- How a pool is kept: the frames in an order, in which the free ones come first, and the place of
+-- each frame in this order.
 use Rattle.std.specs.Prelude.{◌≡◌, ℕ, ◌<◌, ◌≤◌, Bool, nat_le, List, length, map, slice_index}
 
 -- The order and the places are inverse to each other.
@@ -7,7 +8,8 @@ pub record IsOrder (order place : List ℕ) : Type 0 where
   pub frames : (i : ℕ) → i < length order → slice_index order i < length order
   pub places : (frame : ℕ) → frame < length order → slice_index place frame < length order
   pub place_of_frame : (i : ℕ) → i < length order → slice_index place (slice_index order i) ≡ i
-  pub frame_at_place : (frame : ℕ) → frame < length order → slice_index order (slice_index place frame) ≡ frame
+  pub frame_at_place :
+      (frame : ℕ) → frame < length order → slice_index order (slice_index place frame) ≡ frame
 
 -- Which frames are out, where so many come first that are free.
 abbrev pub out_of : List ℕ → ℕ → List Bool

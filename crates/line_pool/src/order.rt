@@ -24,7 +24,9 @@ pub fn move_frame(order: &mut Vec<u32>, place: &mut Vec<u32>, frame: usize, to: 
     requires to { to < length order.old.items }
     ensures order { IsOrder order.new.items place.new.items }
     ensures long { length order.new.items ≡ length order.old.items }
-    ensures places { place.new.items ≡ slice_set (slice_set place.old.items (slice_index order.old.items to) (slice_index place.old.items frame)) frame to }
+    ensures places { place.new.items
+        ≡ slice_set (slice_set place.old.items (slice_index order.old.items to)
+        (slice_index place.old.items frame)) frame to }
 {
     let from = place[frame] as usize;
     let other = order[to];

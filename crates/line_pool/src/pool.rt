@@ -43,9 +43,11 @@ impl Model for LinePool {
     ghost invariant = { λ p. IsKept p.order.items p.place.items p.words.items p.free };
 }
 
-/// Each frame of a pool is free or out, and none is both. A frame is free while fewer are out than there are.
+/// Each frame of a pool is free or out, and none is both. A frame is free while fewer are out than
+/// there are.
 pub fn frames_are_free_or_out()
-    ensures either { (pool : Pool) (frame : ℕ) → frame < length pool.out → IsFree pool frame ⊎ IsOut pool frame }
+    ensures either { (pool : Pool) (frame : ℕ) → frame < length pool.out
+        → IsFree pool frame ⊎ IsOut pool frame }
     ensures never_both { (pool : Pool) (frame : ℕ) → IsFree pool frame → ¬ (IsOut pool frame) }
     ensures some_free { (pool : Pool) → count_out pool.out < length pool.out → ¬ (AllOut pool) }
 {}
@@ -85,7 +87,8 @@ impl LinePool {
         ensures same { IfNone result (self.new ≡ self.old) }
         ensures free { IfSome result (λ frame. IsFree self.old frame) }
         ensures taken { IfSome result (λ frame. self.new ≡ with_out self.old frame true) }
-        ensures count { IfSome result (λ frame. count_out self.new.out ≡ count_out self.old.out + 1) }
+        ensures count { IfSome result
+            (λ frame. count_out self.new.out ≡ count_out self.old.out + 1) }
     {
         if self.free == 0 {
             return None;
@@ -131,7 +134,8 @@ impl LinePool {
     pub fn set_word(&mut self, frame: FrameNo, offset: u8, value: u32)
         requires frame { IsOut self.old frame }
         requires offset { offset < 4 }
-        ensures { self.new ≡ with_words self.old frame (slice_set (words_of self.old frame) offset value) }
+        ensures { self.new
+            ≡ with_words self.old frame (slice_set (words_of self.old frame) offset value) }
     {
         self.words[frame.0 as usize][offset as usize] = value;
     }

@@ -37,7 +37,8 @@ fn take_seeded(machine: &mut Machine, mut turns: SeededTurns)
 
 /// Boards have turns in order, until every script is at its end.
 pub fn finish(machine: &mut Machine)
-    ensures machine { (rounds : ℕ) → 8 * access_count machine.old.setup ≤ rounds → machine.new ≡ after_turns machine.old (repeated rounds (board_places machine.old.setup)) }
+    ensures machine { (rounds : ℕ) → 8 * access_count machine.old.setup ≤ rounds
+        → machine.new ≡ after_turns machine.old (repeated rounds (board_places machine.old.setup)) }
     ensures complete { Complete machine.new.setup (configuration machine.new) }
 {
     // The journal of a machine has at most 8 events an access.
@@ -53,18 +54,25 @@ pub fn finish(machine: &mut Machine)
 pub fn play(machine: &mut Machine, schedule: &[u8])
     requires opening { machine.old.journal ≡ [] }
     requires boards { AllByRecursion (IsBoard machine.old) schedule.now }
-    ensures played { machine.new ≡ record { setup = machine.old.setup; journal = played machine.old.setup schedule.now } }
+    ensures played { machine.new
+        ≡ record { setup = machine.old.setup; journal = played machine.old.setup schedule.now } }
     ensures complete { Complete machine.new.setup (configuration machine.new) }
 {
     take_turns(machine, schedule);
     finish(machine);
 }
 
-/// Plays the seeded schedule of a number from the opening, as `play` does. The number of accesses over all scripts is told.
+/// Plays the seeded schedule of a number from the opening, as `play` does. The number of accesses
+/// over all scripts is told.
 pub fn play_seeded(machine: &mut Machine, seed: u64, accesses: u32)
     requires opening { machine.old.journal ≡ [] }
     requires accesses { accesses ≡ access_count machine.old.setup }
-    ensures played { machine.new ≡ record { setup = machine.old.setup; journal = played machine.old.setup (seeded_turns seed (length machine.old.setup.boards) accesses) } }
+    ensures played { machine.new
+        ≡ record {
+          setup = machine.old.setup;
+          journal = played machine.old.setup
+              (seeded_turns seed (length machine.old.setup.boards) accesses);
+        } }
     ensures complete { Complete machine.new.setup (configuration machine.new) }
 {
     let turns = SeededTurns::new(seed, machine.boards(), accesses);

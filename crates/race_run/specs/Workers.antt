@@ -27,7 +27,8 @@ setup_of shared = (given shared).machine.setup
 abbrev pub IsSeat : Shared → Seat → Type 0
 IsSeat shared seat = IsSeatOf ghosts.base ghosts.admits shared seat
 
--- The script of the seat's board is at its end in the configuration that the setup and what the seat has seen give, and what the seat has seen is a history of the setup.
+-- The script of the seat's board is at its end in the configuration that the setup and what the
+-- seat has seen give, and what the seat has seen is a history of the setup.
 pub record IsThrough (setup : Setup) (seat : Seat) : Type 0 where
   pub ended : IsAtEnd setup (seen seat) (number seat)
   pub history : IsHistory setup (seen seat)
@@ -48,4 +49,6 @@ HasWorked shared seat = IsDone shared seat ⊎ (turns seat ≡ 2 ^ 40)
 
 -- Each seat stands in its place in the list, later.
 abbrev pub AreLater : List Seat → List Seat → Type 0
-AreLater before after = (k : ℕ) (d : Seat) → k < length before → IsLater (slice_index_or before k d) (slice_index_or after k d)
+AreLater before after =
+    (k : ℕ) (d : Seat) → k < length before
+    → IsLater (slice_index_or before k d) (slice_index_or after k d)

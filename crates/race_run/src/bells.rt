@@ -38,8 +38,8 @@ fn bit(board: BoardNo) -> u64 {
     1u64.wrapping_shl(board.0 as u32)
 }
 
-/// How a worker stands: whether it has a place, how many turns it has left without one, how many events it has made since
-/// its last rest, and how many of its last turns waited.
+/// How a worker stands: whether it has a place, how many turns it has left without one, how many
+/// events it has made since its last rest, and how many of its last turns waited.
 #[derive(Drop)]
 pub(crate) struct Pace {
     has_place: bool,
@@ -60,8 +60,9 @@ impl Pace {
     }
 }
 
-/// A bell for each board of a machine, which has at most 16, the bits of the boards whose workers rest, and the number of
-/// places that nobody has. The worker of a board rests on the bell of its board.
+/// A bell for each board of a machine, which has at most 16, the bits of the boards whose workers
+/// rest, and the number of places that nobody has. The worker of a board rests on the bell of its
+/// board.
 #[derive(Drop)]
 pub(crate) struct Bells {
     boards: [Parker; 16],
@@ -166,8 +167,8 @@ impl Bells {
         pace.waits = 0;
     }
 
-    /// Before a turn a worker without a place takes a free one, or else rests if its visit is over. A worker with a place
-    /// pauses if it has waited for long.
+    /// Before a turn a worker without a place takes a free one, or else rests if its visit is over.
+    /// A worker with a place pauses if it has waited for long.
     pub(crate) fn before_turn<R: Wait>(&self, rt: &R, board: BoardNo, pace: &mut Pace) {
         if !pace.has_place {
             pace.has_place = self.take_free_place();

@@ -33,9 +33,12 @@ fn open(
     machine: Machine,
 ) -> Result<(Ruled<Racing>, Vec<BoardSeat<Racing>>), RaceFault>
     ensures given { IfOk result (λ r. (given r.0).machine ≡ machine) }
-    ensures seats { IfOk result (λ r. (seats_of r.0 ≡ length machine.setup.boards) × (length r.1.items ≡ length machine.setup.boards)) }
+    ensures seats { IfOk result (λ r.
+        (seats_of r.0 ≡ length machine.setup.boards)
+        × (length r.1.items ≡ length machine.setup.boards)) }
     ensures own { IfOk result (λ r. All (IsSeat r.0) r.1.items) }
-    ensures numbered { IfOk result (λ r. (k : ℕ) (s : _) → slice_get r.1.items k ≡ Some s → number s ≡ k + 1) }
+    ensures numbered { IfOk result
+        (λ r. (k : ℕ) (s : _) → slice_get r.1.items k ≡ Some s → number s ≡ k + 1) }
     ensures handed_back { IfErr result (λ f. f.machine ≡ machine) }
 {
     let boards = machine.boards();
@@ -100,8 +103,8 @@ fn ended(mut machine: Machine, spent: bool) -> Machine
     machine
 }
 
-/// The boards of a machine race: each moves it from a thread of its own until its script is at its end. Where a seat has
-/// made all its turns, which are 2^40, rounds end what is left.
+/// The boards of a machine race: each moves it from a thread of its own until its script is at its
+/// end. Where a seat has made all its turns, which are 2^40, rounds end what is left.
 pub fn race<G: Gate + Sync, R: Threads + Wait + Sync>(
     rt: &R,
     alloc: Global,

@@ -67,8 +67,8 @@ fn work_with<G: Gate, R: Wait>(
     unreachable!()
 }
 
-/// Makes the turns of a seat, and passes the gate before each. It goes on after each event and each wait, and ends where
-/// the board's script is at its end, or where the seat has made all its turns.
+/// Makes the turns of a seat, and passes the gate before each. It goes on after each event and each
+/// wait, and ends where the board's script is at its end, or where the seat has made all its turns.
 pub fn work<G: Gate, R: Wait>(
     rt: &R,
     shared: &Ruled<Racing>,

@@ -1,3 +1,11 @@
+pub mod Cutting
+pub mod Feeds
+pub mod Finding
+pub mod Long
+pub mod Fed
+pub mod Ended
+pub mod Meanings
+pub mod Printing
 pub mod Stepping
 pub mod Reading
 pub mod Tracing

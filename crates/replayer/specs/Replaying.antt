@@ -5,13 +5,15 @@ use Rattle.bus_model.specs.Setup.{board_places}
 use Rattle.bus_model.specs.Events.{Event}
 use Rattle.bus_model.specs.Configuration.{present_access}
 use Rattle.backplane.specs.Machine.{Machine, configuration, happened, MayHappen}
-use Rattle.trace_lines.specs.declared.fault.ReplayFault.{ReplayFault}
-use Rattle.trace_lines.specs.declared.fault.ReplayFault.TheVariants.{Unfinished}
-use Rattle.trace_lines.specs.Replaying as lines
-use Rattle.step_test.proofs.Steps.{decided}
+use Rattle.replayer.specs.declared.fault.ReplayFault.{ReplayFault}
+use Rattle.replayer.specs.declared.fault.ReplayFault.TheVariants.{Unfinished}
+use Rattle.replayer.specs.Traces as lines
+use Rattle.coherence.proofs.Decided.{decided}
 
 -- The machine after an event that may happen, and none after one that may not.
-abbrev pub stepped : (machine : Machine) (event : Event) → MayHappen machine event ⊎ (MayHappen machine event → ⊥) → Option Machine
+abbrev pub stepped :
+    (machine : Machine) (event : Event) → MayHappen machine event ⊎ (MayHappen machine event → ⊥)
+    → Option Machine
 stepped machine event (inl may) = Some (happened machine event)
 stepped machine event (inr not) = None
 
@@ -21,7 +23,9 @@ step machine event = stepped machine event (decided machine.setup (configuration
 
 -- The lowest board whose script is not at its end.
 abbrev pub lowest_unfinished : Machine → Option ℕ
-lowest_unfinished machine = find (λ board. is_some (present_access machine.setup (configuration machine).boards board)) (board_places machine.setup)
+lowest_unfinished machine =
+    find (λ board. is_some (present_access machine.setup (configuration machine).boards board))
+    (board_places machine.setup)
 
 -- A machine is accepted where no board is unfinished.
 abbrev pub accepted : Machine → Option ℕ → Result Machine ReplayFault
@@ -32,6 +36,8 @@ accepted machine (Some board) = Err (Unfinished board)
 abbrev pub close : Machine → Result Machine ReplayFault
 close machine = accepted machine (lowest_unfinished machine)
 
--- What replaying a trace on a machine comes to: the machine after its events, where each line before the first `end` is the line of a step and no board is unfinished then. Else it is the fault of the first line that is none, or the lowest unfinished board.
+-- What replaying a trace on a machine comes to: the machine after its events, where each line
+-- before the first `end` is the line of a step and no board is unfinished then. Else it is the
+-- fault of the first line that is none, or the lowest unfinished board.
 abbrev pub replayed : Machine → List ℕ → Result Machine ReplayFault
 replayed machine text = lines.replayed step close machine text

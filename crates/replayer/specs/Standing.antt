@@ -3,20 +3,22 @@ use Rattle.std.specs.Prelude.{◌≡◌, ℕ, ◌+◌, List, [], length}
 use Rattle.bus_model.specs.Setup.{Setup}
 use Rattle.bus_model.specs.Events.{Event}
 use Rattle.backplane.specs.Machine.{Machine, opened}
-use Rattle.trace_lines.specs.declared.fault.ReplayFault.TheVariants.{Spelling}
-use Rattle.trace_lines.specs.declared.reader.Found.{Found}
-use Rattle.trace_lines.specs.declared.reader.Found.TheVariants as found
-use Rattle.trace_lines.specs.Replaying.{Place, reading, ended, refused, by_step, left_by}
+use Rattle.replayer.specs.declared.fault.ReplayFault.TheVariants.{Spelling}
+use Rattle.replayer.specs.declared.reader.Found.{Found}
+use Rattle.replayer.specs.declared.reader.Found.TheVariants as found
+use Rattle.replayer.specs.Traces.{Place, reading, ended, refused, by_step, left_by}
 use Rattle.replayer.specs.declared.stage.Stage.{Stage}
 use Rattle.replayer.specs.declared.stage.Stage.TheVariants.{Reading, Ended, Refused}
 use Rattle.replayer.specs.Replaying.{step}
 
--- A replay: the setup of its machine, and its place: reading a line of some number with the bytes of it so far, after the line `end`, or at a fault.
+-- A replay: the setup of its machine, and its place: reading a line of some number with the bytes
+-- of it so far, after the line `end`, or at a fault.
 pub record Replaying : Type 0 where
   pub setup : Setup
   pub place : Place Machine
 
--- A replay stands for a text where its place is the one in which the text leaves a machine at its opening.
+-- A replay stands for a text where its place is the one in which the text leaves a machine at its
+-- opening.
 abbrev pub StandsFor : Replaying → List ℕ → Type 0
 StandsFor replay text = replay.place ≡ left_by step (opened replay.setup) text
 
@@ -38,7 +40,8 @@ IsReading (refused fault) = ⊥
 
 -- The place after the line of an event of this number.
 abbrev pub at_event : Machine → ℕ → Event → Place Machine
-at_event machine number event = by_step refused (λ next. reading next (number + 1) []) number (step machine event)
+at_event machine number event =
+    by_step refused (λ next. reading next (number + 1) []) number (step machine event)
 
 -- The place after a line of this number, as it was found.
 abbrev pub at_found : Machine → ℕ → Found → Place Machine

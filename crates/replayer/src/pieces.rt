@@ -3,18 +3,19 @@
 ghost use Rattle.std.specs.Prelude.{◌≡◌, ◌↔◌, ◌++◌, ℕ, List, [], ◌∷◌, IsTrue, IfOk};
 ghost use Rattle.bus_model.specs.Runs.{Complete};
 ghost use Rattle.backplane.specs.Machine.{opened, configuration};
-ghost use Rattle.trace_lines.specs.Lines.{trace_of};
-ghost use Rattle.trace_lines.specs.Reader.{LacksFeed};
-ghost use Rattle.trace_lines.specs.Replaying.{fed, ending};
+ghost use Rattle.replayer.specs.Lines.{trace_of};
+ghost use Rattle.replayer.specs.Reader.{LacksFeed};
+ghost use Rattle.replayer.specs.Traces.{fed, ending};
 ghost use Rattle.replayer.specs.Replaying.{step, close, replayed};
 ghost use Rattle.replayer.specs.Runs.{Says, Accepts, IsOnlyAnswer};
 ghost use Rattle.replayer.specs.Standing.{StandsFor, IsReading};
 
+use crate::fault::ReplayFault;
+use crate::reader::{Reader, first_line};
 use crate::stage::Stage;
 use crate::steps::{close, misspelled, next_line, take};
 use backplane::Machine;
 use std::marker::Model;
-use trace_lines::{Reader, ReplayFault, first_line};
 
 /// A machine, and how far a trace has brought it.
 #[derive(Drop)]
@@ -46,20 +47,27 @@ impl Replay {
         }
     }
 
-    /// Reads the next piece of the trace. What follows the line `end`, or a fault, is not looked at.
+    /// Reads the next piece of the trace. What follows the line `end`, or a fault, is not looked
+    /// at.
     pub fn feed(&mut self, piece: &[u8])
         ensures setup { self.new.setup ≡ self.old.setup }
-        ensures stands { (text : List ℕ) → StandsFor self.old text → StandsFor self.new (text ++ piece.now) }
+        ensures stands { (text : List ℕ) → StandsFor self.old text
+            → StandsFor self.new (text ++ piece.now) }
     {
         self.read(piece);
     }
 
-    /// The trace ends here. It gives the machine where the trace is one of a complete run of its setup.
+    /// The trace ends here. It gives the machine where the trace is one of a complete run of its
+    /// setup.
     pub fn finish(self) -> Result<Machine, ReplayFault>
-        ensures replayed { (text : List ℕ) → StandsFor self text → result ≡ replayed (opened self.setup) text }
-        ensures says { (text : List ℕ) → StandsFor self text → Says self.setup (trace_of text) result }
-        ensures accepts { (text : List ℕ) → StandsFor self text → Accepts self.setup (trace_of text) result }
-        ensures only { (text : List ℕ) → StandsFor self text → IsOnlyAnswer self.setup (trace_of text) result }
+        ensures replayed { (text : List ℕ) → StandsFor self text
+            → result ≡ replayed (opened self.setup) text }
+        ensures says { (text : List ℕ) → StandsFor self text
+            → Says self.setup (trace_of text) result }
+        ensures accepts { (text : List ℕ) → StandsFor self text
+            → Accepts self.setup (trace_of text) result }
+        ensures only { (text : List ℕ) → StandsFor self text
+            → IsOnlyAnswer self.setup (trace_of text) result }
     {
         self.answer()
     }
@@ -95,7 +103,8 @@ impl Replay {
         requires reading { IsReading self.old.place }
         requires lacks { LacksFeed bytes.now }
         ensures setup { self.new.setup ≡ self.old.setup }
-        ensures place { (rest : List ℕ) → fed step self.new.place rest ≡ fed step self.old.place (bytes.now ++ 10 ∷ rest) }
+        ensures place { (rest : List ℕ)
+            → fed step self.new.place rest ≡ fed step self.old.place (bytes.now ++ 10 ∷ rest) }
     {
         let found = self.reader.close(bytes);
         self.stage = take(&mut self.machine, found);

@@ -1,6 +1,6 @@
 //! How far a replay has come.
 
-use trace_lines::ReplayFault;
+use crate::fault::ReplayFault;
 
 /// How far a replay has come.
 #[derive(Clone, Copy, Debug, PartialEq, Eq)]

@@ -3,15 +3,16 @@
 ghost use Rattle.std.specs.Prelude.{◌≡◌, [], IfOk};
 ghost use Rattle.bus_model.specs.Runs.{Complete};
 ghost use Rattle.backplane.specs.Machine.{configuration};
-ghost use Rattle.trace_lines.specs.declared.fault.ReplayFault.TheVariants.{Spelling};
+ghost use Rattle.replayer.specs.declared.fault.ReplayFault.TheVariants.{Spelling};
 ghost use Rattle.replayer.specs.declared.stage.Stage.TheVariants.{Refused};
 ghost use Rattle.replayer.specs.Replaying.{close};
 ghost use Rattle.replayer.specs.Standing.{number_of_next, place_of, at_event, at_found};
 
+use crate::fault::ReplayFault;
+use crate::reader::Found;
 use crate::stage::Stage;
 use backplane::Machine;
 use journal::Event;
-use trace_lines::{Found, ReplayFault};
 
 /// The number of the line that is read next.
 pub fn next_line(machine: &Machine) -> u64
@@ -23,7 +24,8 @@ pub fn next_line(machine: &Machine) -> u64
 /// An event is done where it is a step.
 fn take_event(machine: &mut Machine, event: &Event) -> Stage
     ensures setup { machine.new.setup ≡ machine.old.setup }
-    ensures place { place_of machine.new [] result ≡ at_event machine.old (number_of_next machine.old) event.now }
+    ensures place { place_of machine.new [] result
+        ≡ at_event machine.old (number_of_next machine.old) event.now }
 {
     let line = next_line(machine);
     match machine.apply(event) {
@@ -35,7 +37,8 @@ fn take_event(machine: &mut Machine, event: &Event) -> Stage
 /// A line with its line feed is done.
 pub fn take(machine: &mut Machine, found: Found) -> Stage
     ensures setup { machine.new.setup ≡ machine.old.setup }
-    ensures place { place_of machine.new [] result ≡ at_found machine.old (number_of_next machine.old) found }
+    ensures place { place_of machine.new [] result
+        ≡ at_found machine.old (number_of_next machine.old) found }
 {
     match found {
         Found::Event(event) => take_event(machine, &event),

@@ -1,16 +1,16 @@
 //! A trace that is there as a whole.
 
 ghost use Rattle.std.specs.Prelude.{◌≡◌, []};
-ghost use Rattle.trace_lines.specs.Lines.{trace_of};
+ghost use Rattle.replayer.specs.Lines.{trace_of};
 ghost use Rattle.replayer.specs.Replaying.{replayed};
 ghost use Rattle.replayer.specs.Runs.{Says, Accepts, IsOnlyAnswer};
 
+use crate::fault::ReplayFault;
 use crate::pieces::Replay;
 use backplane::Machine;
-use trace_lines::ReplayFault;
 
-/// Replays a trace on a machine at its opening. It gives the machine after the events of the trace exactly where they are
-/// a complete run of its setup.
+/// Replays a trace on a machine at its opening. It gives the machine after the events of the trace
+/// exactly where they are a complete run of its setup.
 pub fn replay(machine: Machine, trace: &[u8]) -> Result<Machine, ReplayFault>
     requires { machine.journal ≡ [] }
     ensures replayed { result ≡ replayed machine trace.now }

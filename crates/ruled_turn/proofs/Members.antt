@@ -20,16 +20,22 @@ module _ {A : Type 0} where
   alone_at P x p zero y at = subst (P 0) (some-injective x y at) p
   alone_at P x p (suc k) y at = absurd (some-ne-none y (sym at))
 
-  pub at_end : (xs : List A) (x y : A) (k : ℕ) → get_elem? (xs ++ x ∷ []) k ≡ some y → (get_elem? xs k ≡ some y) ⊎ ((k ≡ length xs) × (x ≡ y))
+  pub at_end :
+      (xs : List A) (x y : A) (k : ℕ) → get_elem? (xs ++ x ∷ []) k ≡ some y
+      → (get_elem? xs k ≡ some y) ⊎ ((k ≡ length xs) × (x ≡ y))
   at_end [] x y zero at = inr (refl, some-injective x y at)
   at_end [] x y (suc k) at = absurd (some-ne-none y (sym at))
   at_end (z ∷ zs) x y zero at = inl at
-  at_end (z ∷ zs) x y (suc k) at = ⊎_elim (λ e. inl e) (λ (t : (k ≡ length zs) × (x ≡ y)). inr (ap suc t.0, t.1)) (at_end zs x y k at)
+  at_end (z ∷ zs) x y (suc k) at =
+      ⊎_elim (λ e. inl e) (λ (t : (k ≡ length zs) × (x ≡ y)). inr (ap suc t.0, t.1)) (at_end zs x y k at)
 
-  pub at_either : (xs ys : List A) (x : A) (k : ℕ) → get_elem? (xs ++ ys) k ≡ some x → ((i : ℕ) × (get_elem? xs i ≡ some x)) ⊎ ((i : ℕ) × (get_elem? ys i ≡ some x))
+  pub at_either :
+      (xs ys : List A) (x : A) (k : ℕ) → get_elem? (xs ++ ys) k ≡ some x
+      → ((i : ℕ) × (get_elem? xs i ≡ some x)) ⊎ ((i : ℕ) × (get_elem? ys i ≡ some x))
   at_either [] ys x k at = inr (k, at)
   at_either (z ∷ zs) ys x zero at = inl (0, at)
-  at_either (z ∷ zs) ys x (suc k) at = ⊎_elim (λ (t : (i : ℕ) × (get_elem? zs i ≡ some x)). inl (suc t.0, t.1)) (λ t. inr t) (at_either zs ys x k at)
+  at_either (z ∷ zs) ys x (suc k) at =
+      ⊎_elim (λ (t : (i : ℕ) × (get_elem? zs i ≡ some x)). inl (suc t.0, t.1)) (λ t. inr t) (at_either zs ys x k at)
 
 abbrev number_or : ℕ → Option ℕ → ℕ
 number_or d None = d
@@ -45,21 +51,28 @@ some_or d (Some x) = x
 pub same_some : {A : Type 0} (x y : A) → Some x ≡ Some y → x ≡ y
 same_some x y e = ap (some_or x) e
 
-pub get_push : {A : Type 0} (xs : List A) (x y : A) (k : ℕ) → slice_get (xs ++ x ∷ []) k ≡ Some y → (slice_get xs k ≡ Some y) ⊎ ((k ≡ length xs) × (x ≡ y))
+pub get_push :
+    {A : Type 0} (xs : List A) (x y : A) (k : ℕ) → slice_get (xs ++ x ∷ []) k ≡ Some y
+    → (slice_get xs k ≡ Some y) ⊎ ((k ≡ length xs) × (x ≡ y))
 get_push [] x y zero at = inr (refl, same_some x y at)
 get_push [] x y (suc k) at = absurd (none-some y at)
 get_push (z ∷ zs) x y zero at = inl at
-get_push (z ∷ zs) x y (suc k) at = ⊎_elim (λ e. inl e) (λ (t : (k ≡ length zs) × (x ≡ y)). inr (ap suc t.0, t.1)) (get_push zs x y k at)
+get_push (z ∷ zs) x y (suc k) at =
+    ⊎_elim (λ e. inl e) (λ (t : (k ≡ length zs) × (x ≡ y)). inr (ap suc t.0, t.1)) (get_push zs x y k at)
 
 -- What holds of each element holds of one in the middle.
 pub all_middle : {A : Type 0} (P : A → Type 0) (xs ys : List A) (x : A) → All P ((xs ++ x ∷ []) ++ ys) → P x
-all_middle P xs ys x all = subst P (there xs ys x) (all (length xs) x (let e = length-append (xs ++ x ∷ []) ys in let e' = length-append xs (x ∷ []) in omega arith))
+all_middle P xs ys x all =
+    subst P (there xs ys x)
+    (all (length xs) x (let e = length-append (xs ++ x ∷ []) ys in let e' = length-append xs (x ∷ []) in omega arith))
   where
     there : {A : Type 0} (xs ys : List A) (x : A) → get_or ((xs ++ x ∷ []) ++ ys) (length xs) x ≡ x
     there [] ys x = refl
     there (z ∷ zs) ys x = there zs ys x
 
-pub at_mapped : {A B : Type 0} (f : A → B) (xs : List A) (k : ℕ) (d : A) → k < length xs → get_elem? (map f xs) k ≡ some (f (get_or xs k d))
+pub at_mapped :
+    {A B : Type 0} (f : A → B) (xs : List A) (k : ℕ) (d : A) → k < length xs
+    → get_elem? (map f xs) k ≡ some (f (get_or xs k d))
 at_mapped f [] k d l = absurd (omega arith)
 at_mapped f (x ∷ xs) zero d l = refl
 at_mapped f (x ∷ xs) (suc k) d l = at_mapped f xs k d (omega arith)

@@ -14,17 +14,22 @@ module _ {M B E : Type 0} where
   abbrev pub drawn : Step (Option M) → Stand M B E → ℕ → Stand M B E → Type 0
   drawn st m n m' = m' ≡ (with_ticket n m.0, m.1)
 
-  -- Where it is the ticket's turn, the seat has the value, whose list goes on from what it had seen and has its own
+  -- Where it is the ticket's turn, the seat has the value, whose list goes on from what it had seen
+  -- and has its own
   -- entries; where it is not, nothing is told.
-  abbrev pub looked : (M → B) → (M → List (ℕ × E)) → Step (Option M) → Stand M B E → ℕ → Stand M B E → Type 0
+  abbrev pub looked :
+      (M → B) → (M → List (ℕ × E)) → Step (Option M) → Stand M B E → ℕ → Stand M B E → Type 0
   looked base entries st m n m' =
-      (m.0.ticket ≡ Some n → (value : M) × (m' ≡ (with_value (entries value) m.0, (0, Some value) ∷ [])) × (m.0.base ≡ Some (base value))
+      (m.0.ticket ≡ Some n
+      → (value : M) × (m' ≡ (with_value (entries value) m.0, (0, Some value) ∷ []))
+      × (m.0.base ≡ Some (base value))
       × GoesOn (seen_by m.0) (entries value) × (mine_of m.0 ≡ of (number_of m.0) (entries value)))
       × (m.0.ticket ≢ Some n → m' ≡ m)
 
   -- The list of the value in hand is the history.
   abbrev pub entered : (M → List (ℕ × E)) → Step (Option M) → Stand M B E → ℕ → Stand M B E → Type 0
-  entered entries st m n m' = (value : M) → m.1 ≡ (0, Some value) ∷ [] → m' ≡ (with_entry (entries value) m.0, m.1)
+  entered entries st m n m' =
+      (value : M) → m.1 ≡ (0, Some value) ∷ [] → m' ≡ (with_entry (entries value) m.0, m.1)
 
   -- The slot is given back.
   abbrev pub gave : Step (Option M) → Stand M B E → ℕ → Stand M B E → Type 0

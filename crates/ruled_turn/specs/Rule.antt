@@ -1,5 +1,6 @@
 -- The rule: what holds of the table and all views between any two steps.
--- Word 0 is the next ticket to be drawn, word 1 the ticket whose turn it is, and word 2 the length of the history. Slot
+-- Word 0 is the next ticket to be drawn, word 1 the ticket whose turn it is, and word 2 the length
+-- of the history. Slot
 -- 0 has the value, but while it is out with the view whose turn it is.
 use Rattle.std.specs.Prelude.{◌≡◌, ◌⊎◌, ℕ, ◌+◌, ◌^◌, ◌<◌, ◌≤◌, true, List, [], ◌∷◌, length, Option, Some}
 use mathlib.Core.Option.{none, some}
@@ -38,33 +39,49 @@ module _ {M B E : Type 0} (base : M → B) (entries : M → List (ℕ × E)) (ke
   abbrev pub start : List (ℕ × E)
   start = entries key.value.value
 
-  -- An account tells the truth of its seat: what the seat has seen is a prefix of the history, and its own entries are
+  -- An account tells the truth of its seat: what the seat has seen is a prefix of the history, and
+  -- its own entries are
   -- those of its number. No two views have an account of one seat, since `owner` gives the view.
-  pub record AccountOk (history : List (ℕ × E)) (owner : ℕ → ℕ) (j : ℕ) (a : Account E) : Type 0 where
-    pub numbered : (0 < a.number) × (a.number ≤ key.seats)
-    pub owned : owner a.number ≡ j
-    pub seen : GoesOn a.seen history
-    pub mine : a.mine ≡ of a.number history
-    pub turns : a.turns ≤ 2 ^ 40
+  pub record AccountOk (history : List (ℕ × E)) (owner : ℕ → ℕ) (j : ℕ) (a : Account E) : Type 0
+    where
+      pub numbered : (0 < a.number) × (a.number ≤ key.seats)
+      pub owned : owner a.number ≡ j
+      pub seen : GoesOn a.seen history
+      pub mine : a.mine ≡ of a.number history
+      pub turns : a.turns ≤ 2 ^ 40
 
-  -- A view is true: its accounts are, its ticket is drawn and not done with, and where it has the value or has entered,
-  -- the ticket is the one whose turn it is. No two views have one ticket, since `taker` gives the view.
-  pub record ViewOk (ticket serving : ℕ) (history : List (ℕ × E)) (owner taker : ℕ → ℕ) (homes : Homes) (j : ℕ) (v : View B E) : Type 0 where
+  -- A view is true: its accounts are, its ticket is drawn and not done with, and where it has the
+  -- value or has entered,
+  -- the ticket is the one whose turn it is. No two views have one ticket, since `taker` gives the
+  -- view.
+  pub record ViewOk (ticket serving : ℕ) (history : List (ℕ × E)) (owner taker : ℕ → ℕ)
+      (homes : Homes) (j : ℕ) (v : View B E) : Type 0 where
     pub based : 0 < length v.accounts → v.base ≡ Some (base key.value.value)
-    pub accounts : (k : ℕ) (a : Account E) → get_elem? v.accounts k ≡ some a → AccountOk history owner j a
-    pub drew : (t : ℕ) → v.ticket ≡ Some t → (serving ≤ t) × (t < ticket) × (taker t ≡ j) × (0 < length v.accounts)
-    pub holds : v.holds ≡ true → (v.ticket ≡ Some serving) × (homes ≡ none ∷ []) × ((k : ℕ) (a : Account E) → get_elem? v.accounts k ≡ some a → a.seen ≡ history)
+    pub accounts :
+        (k : ℕ) (a : Account E) → get_elem? v.accounts k ≡ some a → AccountOk history owner j a
+    pub drew :
+        (t : ℕ) → v.ticket ≡ Some t
+        → (serving ≤ t) × (t < ticket) × (taker t ≡ j) × (0 < length v.accounts)
+    pub holds :
+        v.holds ≡ true
+        → (v.ticket ≡ Some serving) × (homes ≡ none ∷ [])
+        × ((k : ℕ) (a : Account E) → get_elem? v.accounts k ≡ some a → a.seen ≡ history)
     pub entered : v.entered ≡ true → v.ticket ≡ Some serving
 
   -- The value is in the slot, with the history as its list and the base that was given.
   abbrev pub IsHome : List (ℕ × E) → Homes → Type 0
-  IsHome history homes = (value : M) × (homes ≡ some (Some value) ∷ []) × (entries value ≡ history) × (base value ≡ base key.value.value)
+  IsHome history homes =
+      (value : M) × (homes ≡ some (Some value) ∷ []) × (entries value ≡ history)
+      × (base value ≡ base key.value.value)
 
   -- The value is out with one of the views.
   abbrev pub IsOut : Homes → List (View B E) → Type 0
-  IsOut homes views = (homes ≡ none ∷ []) × ((j : ℕ) × (v : View B E) × (get_elem? views j ≡ some v) × (v.holds ≡ true))
+  IsOut homes views =
+      (homes ≡ none ∷ [])
+      × ((j : ℕ) × (v : View B E) × (get_elem? views j ≡ some v) × (v.holds ≡ true))
 
-  -- The rule. `history` is the list of the value, or while it is out, the list that its holder has entered.
+  -- The rule. `history` is the list of the value, or while it is out, the list that its holder has
+  -- entered.
   pub record InTurn (s : State (Option M) (View B E)) : Type 0 where
     pub ticket : ℕ
     pub serving : ℕ
@@ -78,7 +95,9 @@ module _ {M B E : Type 0} (base : M → B) (entries : M → List (ℕ × E)) (ke
     pub all_seats : total seats s.views ≡ key.seats
     pub counted : length history ≤ length start + serving + total marks s.views
     pub past : GoesOnBySeats key.seats start history
-    pub each_view : (j : ℕ) (v : View B E) → get_elem? s.views j ≡ some v → ViewOk ticket serving history owner taker s.homes j v
+    pub each_view :
+        (j : ℕ) (v : View B E) → get_elem? s.views j ≡ some v
+        → ViewOk ticket serving history owner taker s.homes j v
     pub place : IsHome history s.homes ⊎ IsOut s.homes s.views
 
   -- The view that stands for all seats, with which a table begins.

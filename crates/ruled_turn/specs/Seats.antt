@@ -38,16 +38,22 @@ module _ {M B E A : Type 0} where
   account_of s = account s.number (seen s) (mine s) s.turns
 
   -- The seat is one of this ruled value, and the value's base admits its number.
-  pub record IsSeatOf {g : Ghosts M B E A} (base : M → B) (admits : B → ℕ → Type 0) (r : Ruled M B E A) (s : BoardSeat M B E A g) : Type 0 where
+  pub record IsSeatOf {g : Ghosts M B E A} (base : M → B) (admits : B → ℕ → Type 0)
+      (r : Ruled M B E A) (s : BoardSeat M B E A g) : Type 0 where
     pub table : s.place.table_id ≡ r.table.shared.table_id
     pub based : s.place.me.0.base ≡ Some (base (given r))
     pub admitted : admits (base (given r)) s.number
 
-  -- The seat n as it is made: it has seen the start, its own entries are those of its number in it, and it has made no
+  -- The seat n as it is made: it has seen the start, its own entries are those of its number in it,
+  -- and it has made no
   -- turn.
-  abbrev pub IsNew : {g : Ghosts M B E A} → (M → List (ℕ × E)) → Ruled M B E A → ℕ → BoardSeat M B E A g → Type 0
-  IsNew entries r n s = (s.number ≡ n) × (seen s ≡ entries (given r)) × (mine s ≡ of n (entries (given r))) × (s.turns ≡ 0)
+  abbrev pub IsNew :
+      {g : Ghosts M B E A} → (M → List (ℕ × E)) → Ruled M B E A → ℕ → BoardSeat M B E A g → Type 0
+  IsNew entries r n s =
+      (s.number ≡ n) × (seen s ≡ entries (given r)) × (mine s ≡ of n (entries (given r)))
+      × (s.turns ≡ 0)
 
   -- The view that stands for the seats from n on, which are not dealt yet.
   abbrev pub undealt : (M → B) → (M → List (ℕ × E)) → Ruled M B E A → ℕ → View B E
-  undealt base entries r n = idle (Some (base (given r))) (fresh (entries (given r)) n (seats_of r + 1 - n))
+  undealt base entries r n =
+      idle (Some (base (given r))) (fresh (entries (given r)) n (seats_of r + 1 - n))

@@ -83,7 +83,8 @@ module _ {B E : Type 0} where
 
   -- A view between turns.
   abbrev pub idle : Option B → List (Account E) → View B E
-  idle b accounts = record { base = b; accounts = accounts; ticket = None; holds = false; entered = false }
+  idle b accounts =
+      record { base = b; accounts = accounts; ticket = None; holds = false; entered = false }
 
   -- The view of one seat between turns.
   abbrev pub resting : ℕ → ℕ → View B E → View B E
@@ -91,7 +92,14 @@ module _ {B E : Type 0} where
 
   -- The view of one seat that has a ticket and waits for its turn.
   abbrev pub waiting : ℕ → View B E → View B E
-  waiting t v = record { base = v.base; accounts = account (number_of v) (seen_by v) (mine_of v) (turns_of v) ∷ []; ticket = Some t; holds = false; entered = false }
+  waiting t v =
+      record {
+        base = v.base;
+        accounts = account (number_of v) (seen_by v) (mine_of v) (turns_of v) ∷ [];
+        ticket = Some t;
+        holds = false;
+        entered = false;
+      }
 
   -- The view of one seat after one turn more, which left this list.
   abbrev pub with_turn : ℕ → List (ℕ × E) → View B E → View B E
@@ -99,15 +107,23 @@ module _ {B E : Type 0} where
 
   -- A ticket is drawn, and the seat has one turn more.
   abbrev pub with_ticket : ℕ → View B E → View B E
-  with_ticket t v = record v { ticket = Some t; accounts = amend (λ a. record a { turns = a.turns + 1 }) v.accounts }
+  with_ticket t v =
+      record v
+      { ticket = Some t; accounts = amend (λ a. record a { turns = a.turns + 1 }) v.accounts }
 
   -- The value is taken, and the seat has seen its list.
   abbrev pub with_value : List (ℕ × E) → View B E → View B E
-  with_value list v = record v { holds = true; accounts = amend (λ a. record a { seen = list }) v.accounts }
+  with_value list v =
+      record v { holds = true; accounts = amend (λ a. record a { seen = list }) v.accounts }
 
-  -- The turn has entered: the seat has seen this list, and the entries of its number in it are its own.
+  -- The turn has entered: the seat has seen this list, and the entries of its number in it are its
+  -- own.
   abbrev pub with_entry : List (ℕ × E) → View B E → View B E
-  with_entry list v = record v { entered = true; accounts = amend (λ a. record a { seen = list; mine = of a.number list }) v.accounts }
+  with_entry list v =
+      record v {
+        entered = true;
+        accounts = amend (λ a. record a { seen = list; mine = of a.number list }) v.accounts;
+      }
 
   -- The value is given back.
   abbrev pub without_value : View B E → View B E

@@ -1,5 +1,5 @@
-//! The rule of the table, and the kinds of step on it with what each tells the seat that makes it. These types are for
-//! the proofs alone: they have no values.
+//! The rule of the table, and the kinds of step on it with what each tells the seat that makes it.
+//! These types are for the proofs alone: they have no values.
 
 use crate::turned::Turned;
 use crate::view::{Opening, View};

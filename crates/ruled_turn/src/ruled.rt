@@ -30,15 +30,16 @@ pub const MOST_TURNS: u64 = 1 << 40;
 
 type Place<M> = Seat<Option<M>, View<<M as Turned>::Base, <M as Turned>::Entry>>;
 
-/// A value that its seats step in turns. Contracts see the value that was given and the number of seats.
+/// A value that its seats step in turns. Contracts see the value that was given and the number of
+/// seats.
 pub struct Ruled<M: Turned> {
     table: Table<Option<M>, View<M::Base, M::Entry>, Opening<M>, Turns, Global>,
     ghost sized: { (table.shared.table_id.words ≡ 3) × (table.shared.table_id.slots ≡ 1) },
     ghost seated: { 0 < table.shared.key.seats },
 }
 
-/// The right to make turns under one number. Contracts see the number, the turns that were made, the list at the last
-/// of them, and the entries of this seat in it.
+/// The right to make turns under one number. Contracts see the number, the turns that were made,
+/// the list at the last of them, and the entries of this seat in it.
 #[derive(Drop)]
 pub struct BoardSeat<M: Turned> {
     place: Place<M>,

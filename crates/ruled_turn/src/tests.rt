@@ -47,7 +47,8 @@ impl Turned for Diary {
 fn open(alloc: Global, seats: u32) -> Result<(Ruled<Diary>, Vec<BoardSeat<Diary>>), Fail>
     requires { (0 < seats) × (seats ≤ 1024) }
     ensures seats { IfOk result (λ r. (seats_of r.0 ≡ seats) × (length r.1.items ≡ seats)) }
-    ensures own { IfOk result (λ r. All (IsSeatOf ⟦<Diary as Turned>⟧.base ⟦<Diary as Turned>⟧.admits r.0) r.1.items) }
+    ensures own { IfOk result
+        (λ r. All (IsSeatOf ⟦<Diary as Turned>⟧.base ⟦<Diary as Turned>⟧.admits r.0) r.1.items) }
 {
     let numbers = Vec::with_capacity(alloc, 8)?;
     match Ruled::new(alloc, Diary { numbers }, seats) {
@@ -68,9 +69,11 @@ fn turn_at<R: Wait>(
     at: usize,
 ) -> Result<bool, Spent>
     requires place { at < length seats.old.items }
-    requires own { All (IsSeatOf ⟦<Diary as Turned>⟧.base ⟦<Diary as Turned>⟧.admits ruled.now) seats.old.items }
+    requires own { All (IsSeatOf ⟦<Diary as Turned>⟧.base ⟦<Diary as Turned>⟧.admits ruled.now)
+        seats.old.items }
     ensures length { length seats.new.items ≡ length seats.old.items }
-    ensures own { All (IsSeatOf ⟦<Diary as Turned>⟧.base ⟦<Diary as Turned>⟧.admits ruled.now) seats.new.items }
+    ensures own { All (IsSeatOf ⟦<Diary as Turned>⟧.base ⟦<Diary as Turned>⟧.admits ruled.now)
+        seats.new.items }
 {
     ruled.turn(rt, &mut seats[at])
 }
@@ -87,9 +90,11 @@ fn turn_thrice<R: Wait>(rt: &R, ruled: &Ruled<Diary>, seat: &mut BoardSeat<Diary
 
 // Three turns of each seat, from a thread of its own.
 fn turn_all<R: Threads + Wait + Sync>(rt: &R, ruled: &Ruled<Diary>, seats: &mut [BoardSeat<Diary>])
-    requires { All (IsSeatOf ⟦<Diary as Turned>⟧.base ⟦<Diary as Turned>⟧.admits ruled.now) seats.old }
+    requires { All (IsSeatOf ⟦<Diary as Turned>⟧.base ⟦<Diary as Turned>⟧.admits ruled.now)
+        seats.old }
     ensures length { length seats.new ≡ length seats.old }
-    ensures own { All (IsSeatOf ⟦<Diary as Turned>⟧.base ⟦<Diary as Turned>⟧.admits ruled.now) seats.new }
+    ensures own { All (IsSeatOf ⟦<Diary as Turned>⟧.base ⟦<Diary as Turned>⟧.admits ruled.now)
+        seats.new }
 {
     let threads = seats.len().max(1);
     thread::for_each_mut(rt, seats, threads, &|_, seat| turn_thrice(rt, ruled, seat));
@@ -102,7 +107,8 @@ fn race<R: Threads + Wait + Sync>(
     value: Diary,
 ) -> Result<Diary, OpenFault<Diary>>
     requires { length value.numbers.items < 2 ^ 49 }
-    ensures ok { IfOk result (λ d. GoesOn (⟦<Diary as Turned>⟧.entries value) (⟦<Diary as Turned>⟧.entries d)) }
+    ensures ok { IfOk result
+        (λ d. GoesOn (⟦<Diary as Turned>⟧.entries value) (⟦<Diary as Turned>⟧.entries d)) }
     ensures err { IfErr result (λ f. f.value ≡ value) }
 {
     let (ruled, mut seats) = Ruled::new(alloc, value, 2)?;

@@ -3,7 +3,8 @@
 ghost use Rattle.std.specs.Prelude.{◌≡◌, ℕ, List, length};
 ghost use Rattle.ruled_turn.specs.Entries.{Grows};
 
-/// A value that stands for a base, which no step changes, and a list of entries, each with the number that made it.
+/// A value that stands for a base, which no step changes, and a list of entries, each with the
+/// number that made it.
 pub trait Turned {
     type Base;
 

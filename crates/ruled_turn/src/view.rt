@@ -1,5 +1,5 @@
-//! What the holder of a seat knows, and what the rule is told once. No value of these types but `Opening` is made when
-//! the program runs.
+//! What the holder of a seat knows, and what the rule is told once. No value of these types but
+//! `Opening` is made when the program runs.
 
 use std::collections::LinkedList;
 use std::snapshot::Snapshot;

@@ -1,3 +1,6 @@
+pub mod Settled
+pub mod Named
+pub mod Spelled
 pub mod Behind
 pub mod Numbers
 pub mod LineLengths

@@ -32,7 +32,9 @@ after_weight (w ∷ ws) = let h = after_weight ws in let l = length-append w (af
 -- The bytes of a line: those of its words, and one after each.
 line_weight : (w : List ℕ) (ws : Words) → length (line_bytes (w ∷ ws)) ≡ weight (w ∷ ws)
 line_weight w ws =
-    let h = after_weight ws in let l = length-append w (after_words ws ++ 10 ∷ []) in let m = length-append (after_words ws) (10 ∷ []) in omega arith
+    let h = after_weight ws in
+    let l = length-append w (after_words ws ++ 10 ∷ []) in
+    let m = length-append (after_words ws) (10 ∷ []) in omega arith
 
 place_short : (n : ℕ) → n ≤ 999999 → length (decimal n) ≤ 6
 place_short n h = length-decimal-le 6 n (omega arith) (omega arith) (omega arith)
@@ -51,7 +53,9 @@ entry_short e most high h = go e.access e.reply h.replied
     go : (a : Access) (reply : Option ℕ) → IsReplied a reply → length (access_line e.board e.place a reply) ≤ 34
     go (Read a) None r = absurd r
     go (Read a) (Some v) r =
-        let b = board_short e.board h.board in let p = place_short e.place (omega (arith, h.place)) in let k = address_short a r.0 in let l = value_short v r.1 in
+        let b = board_short e.board h.board in
+        let p = place_short e.place (omega (arith, h.place)) in
+        let k = address_short a r.0 in let l = value_short v r.1 in
         let whole = line_weight (codes "answer") (decimal e.board ∷ decimal e.place ∷ decimal a ∷ decimal v ∷ []) in
         omega arith
     go (Write a v) reply r = omega arith
@@ -66,8 +70,11 @@ memory_short line words low h =
     omega arith
 
 -- A line of a copy has at most 59 bytes.
-pub copy_short : (board line : ℕ) (state : State) (words : List ℕ) → board ≤ 16 → line ≤ 4095 → AreFew words → length (copy_text board line state words) ≤ 59
+pub copy_short :
+    (board line : ℕ) (state : State) (words : List ℕ) → board ≤ 16 → line ≤ 4095 → AreFew words
+    → length (copy_text board line state words) ≤ 59
 copy_short board line state words place low h =
-    let b = board_short board place in let l = line_short line low in let s = state_one state in let k = four_short words h in
+    let b = board_short board place in
+    let l = line_short line low in let s = state_one state in let k = four_short words h in
     let whole = line_weight (codes "copy") (decimal board ∷ decimal line ∷ state_word state ∷ map decimal words) in
     omega arith

@@ -22,11 +22,15 @@ use Rattle.run_text.proofs.LineLengths.{EntryFits, entry_short, memory_short, co
 use Rattle.run_text.proofs.ShortWords.{all-filter, all-more, HasWords, row_few, memory_few, all_words, opening_words, all_entries}
 
 -- Texts of which none has more than so many bytes.
-flat_short : {X : Type 0} (f : X → List ℕ) (most : ℕ) (xs : List X) → AllByRecursion (λ x. length (f x) ≤ most) xs → length (flat_map f xs) ≤ most * length xs
+flat_short :
+    {X : Type 0} (f : X → List ℕ) (most : ℕ) (xs : List X) → AllByRecursion (λ x. length (f x) ≤ most) xs
+    → length (flat_map f xs) ≤ most * length xs
 flat_short f most [] h = omega arith
-flat_short f most (x ∷ xs) h = rw (flat_map-cons f x xs) (omega (arith, length-append (f x) (flat_map f xs), h.0, flat_short f most xs h.1))
+flat_short f most (x ∷ xs) h =
+    rw (flat_map-cons f x xs) (omega (arith, length-append (f x) (flat_map f xs), h.0, flat_short f most xs h.1))
 
-all_of : {X : Type 0} (P Q : X → Type 0) → ((x : X) → P x → Q x) → (xs : List X) → AllByRecursion P xs → AllByRecursion Q xs
+all_of :
+    {X : Type 0} (P Q : X → Type 0) → ((x : X) → P x → Q x) → (xs : List X) → AllByRecursion P xs → AllByRecursion Q xs
 all_of P Q f [] h = tt
 all_of P Q f (x ∷ xs) h = (f x h.0, all_of P Q f xs h.1)
 
@@ -38,13 +42,16 @@ length-numbers (suc n) = let h = length-numbers n in let l = length-append (numb
 
 all-numbers : (P : ℕ → Type 0) (n : ℕ) → ((k : ℕ) → k < n → P k) → AllByRecursion P (numbers_below n)
 all-numbers P zero h = tt
-all-numbers P (suc n) h = all-more P (numbers_below n) n (all-numbers P n (λ k less. h k (omega (arith, less)))) (h n (omega arith))
+all-numbers P (suc n) h =
+    all-more P (numbers_below n) n (all-numbers P n (λ k less. h k (omega (arith, less)))) (h n (omega arith))
 
 length-places : {X : Type 0} (k : ℕ) (xs : List X) → length (places_from k xs) ≡ length xs
 length-places k [] = refl
 length-places k (x ∷ xs) = let h = length-places (suc k) xs in omega arith
 
-all-places : {X : Type 0} (P : ℕ → Type 0) (k : ℕ) (xs : List X) → ((b : ℕ) → b < k + length xs → P b) → AllByRecursion P (places_from k xs)
+all-places :
+    {X : Type 0} (P : ℕ → Type 0) (k : ℕ) (xs : List X) → ((b : ℕ) → b < k + length xs → P b)
+    → AllByRecursion P (places_from k xs)
 all-places P k [] h = tt
 all-places P k (x ∷ xs) h = (h k (omega arith), all-places P (suc k) xs (λ b less. h b (omega (arith, less))))
 
@@ -61,8 +68,12 @@ once : {X : Type 0} (k b : ℕ) (xs : List X) → count_where (λ x. b == x) (pl
 once k b [] = omega arith
 once k b (x ∷ xs) = go (b == k) refl (once (suc k) b xs)
   where
-    go : (t : Bool) → (b == k) ≡ t → count_where (λ x. b == x) (places_from (suc k) xs) ≤ 1 → cond t 1 0 + count_where (λ x. b == x) (places_from (suc k) xs) ≤ 1
-    go true e rest = let same : b ≡ k = eqb-true b k e in let none = none-before (suc k) b xs (omega (arith, same)) in omega (arith, none)
+    go :
+        (t : Bool) → (b == k) ≡ t → count_where (λ x. b == x) (places_from (suc k) xs) ≤ 1
+        → cond t 1 0 + count_where (λ x. b == x) (places_from (suc k) xs) ≤ 1
+    go true e rest =
+        let same : b ≡ k = eqb-true b k e in
+        let none = none-before (suc k) b xs (omega (arith, same)) in omega (arith, none)
     go false e rest = omega (arith, rest)
 
 -- ---- replies
@@ -72,12 +83,15 @@ abbrev counted : List ℕ → List Entry → ℕ
 counted [] history = 0
 counted (b ∷ bs) history = length (entries_of b history) + counted bs history
 
-counted_more : (bs : List ℕ) (e : Entry) (history : List Entry) → counted bs (e ∷ history) ≡ count_where (λ b. e.board == b) bs + counted bs history
+counted_more :
+    (bs : List ℕ) (e : Entry) (history : List Entry)
+    → counted bs (e ∷ history) ≡ count_where (λ b. e.board == b) bs + counted bs history
 counted_more [] e history = refl
 counted_more (b ∷ bs) e history = go (e.board == b) (counted_more bs e history)
   where
     go : (t : Bool) → counted bs (e ∷ history) ≡ count_where (λ b. e.board == b) bs + counted bs history
-        → length (cond t (e ∷ entries_of b history) (entries_of b history)) + counted bs (e ∷ history) ≡ cond t 1 0 + count_where (λ b. e.board == b) bs + (length (entries_of b history) + counted bs history)
+        → length (cond t (e ∷ entries_of b history) (entries_of b history)) + counted bs (e ∷ history)
+        ≡ cond t 1 0 + count_where (λ b. e.board == b) bs + (length (entries_of b history) + counted bs history)
     go true rest = omega (arith, rest)
     go false rest = omega (arith, rest)
 
@@ -85,19 +99,33 @@ counted_none : (bs : List ℕ) → counted bs [] ≡ 0
 counted_none [] = refl
 counted_none (b ∷ bs) = let h = counted_none bs in omega arith
 
-counted_within : (bs : List ℕ) → ((b : ℕ) → count_where (λ x. b == x) bs ≤ 1) → (history : List Entry) → counted bs history ≤ length history
+counted_within :
+    (bs : List ℕ) → ((b : ℕ) → count_where (λ x. b == x) bs ≤ 1) → (history : List Entry)
+    → counted bs history ≤ length history
 counted_within bs each [] = let h = counted_none bs in omega arith
-counted_within bs each (e ∷ history) = let rest = counted_within bs each history in let more = counted_more bs e history in omega (arith, each e.board, rest, more)
+counted_within bs each (e ∷ history) =
+    let rest = counted_within bs each history in
+    let more = counted_more bs e history in omega (arith, each e.board, rest, more)
 
-replies_counted : (history : List Entry) (bs : List ℕ) → AllByRecursion (λ e. length (entry_line e) ≤ 34) history → length (replies_text history bs) ≤ 34 * counted bs history
+replies_counted :
+    (history : List Entry) (bs : List ℕ) → AllByRecursion (λ e. length (entry_line e) ≤ 34) history
+    → length (replies_text history bs) ≤ 34 * counted bs history
 replies_counted history [] h = omega arith
 replies_counted history (b ∷ bs) h =
-    let one = flat_short entry_line 34 (entries_of b history) (all-filter (λ e. length (entry_line e) ≤ 34) (λ (e : Entry). e.board == b) history h) in
-    rw (flat_map-cons (board_replies history) b bs) (omega (arith, length-append (board_replies history b) (replies_text history bs), one, replies_counted history bs h))
+    let one = flat_short entry_line 34 (entries_of b history)
+    (all-filter (λ e. length (entry_line e) ≤ 34) (λ (e : Entry). e.board == b) history h) in
+    rw (flat_map-cons (board_replies history) b bs)
+    (omega (
+      arith,
+      length-append (board_replies history b) (replies_text history bs),
+      one,
+      replies_counted history bs h,
+    ))
 
 -- ---- the ending
 
-copy_of_short : (c : Configuration) (board line : ℕ) → HasWords c → board ≤ 16 → line ≤ 4095 → length (copy_of c board line) ≤ 59
+copy_of_short :
+    (c : Configuration) (board line : ℕ) → HasWords c → board ≤ 16 → line ≤ 4095 → length (copy_of c board line) ≤ 59
 copy_of_short c board line h place low = go (row_at c.rows board line) refl
   where
     go : (o : Option Row) → row_at c.rows board line ≡ o → length (row_text board line o) ≤ 59
@@ -106,32 +134,49 @@ copy_of_short c board line h place low = go (row_at c.rows board line) refl
 
 memory_within : (c : Configuration) (lines : ℕ) → HasWords c → lines ≤ 4096 → length (all_memory c lines) ≤ 229376
 memory_within c lines h few =
-    let all = flat_short (memory_of c) 56 (numbers_below lines) (all-numbers (λ k. length (memory_of c k) ≤ 56) lines (λ k less. memory_short k _ (omega (arith, less, few)) (memory_few c.memory k h.memory))) in
+    let all = flat_short (memory_of c) 56 (numbers_below lines)
+    (all-numbers (λ k. length (memory_of c k) ≤ 56) lines
+    (λ k less. memory_short k _ (omega (arith, less, few)) (memory_few c.memory k h.memory))) in
     omega (arith, all, length-numbers lines, few)
 
-board_within : (c : Configuration) (lines board : ℕ) → HasWords c → lines ≤ 4096 → board ≤ 16 → length (board_copies c lines board) ≤ 241664
+board_within :
+    (c : Configuration) (lines board : ℕ) → HasWords c → lines ≤ 4096 → board ≤ 16
+    → length (board_copies c lines board) ≤ 241664
 board_within c lines board h few place =
-    let all = flat_short (copy_of c board) 59 (numbers_below lines) (all-numbers (λ k. length (copy_of c board k) ≤ 59) lines (λ k less. copy_of_short c board k h place (omega (arith, less, few)))) in
+    let all = flat_short (copy_of c board) 59 (numbers_below lines)
+    (all-numbers (λ k. length (copy_of c board k) ≤ 59) lines
+    (λ k less. copy_of_short c board k h place (omega (arith, less, few)))) in
     omega (arith, all, length-numbers lines, few)
 
-copies_within : (setup : Setup) (c : Configuration) → HasWords c → line_count setup ≤ 4096 → length setup.boards ≤ 16 → length (all_copies c (line_count setup) (board_places setup)) ≤ 3866624
+copies_within :
+    (setup : Setup) (c : Configuration) → HasWords c → line_count setup ≤ 4096 → length setup.boards ≤ 16
+    → length (all_copies c (line_count setup) (board_places setup)) ≤ 3866624
 copies_within setup c h few boards =
-    let all = flat_short (board_copies c (line_count setup)) 241664 (board_places setup) (all-places (λ b. length (board_copies c (line_count setup) b) ≤ 241664) 1 setup.boards (λ b less. board_within c (line_count setup) b h few (omega (arith, less, boards)))) in
+    let all = flat_short (board_copies c (line_count setup)) 241664 (board_places setup)
+    (all-places (λ b. length (board_copies c (line_count setup) b) ≤ 241664) 1 setup.boards
+    (λ b less. board_within c (line_count setup) b h few (omega (arith, less, boards)))) in
     omega (arith, all, length-places 1 setup.boards, boards)
 
-replies_within : (setup : Setup) (events : List Event) → AllByRecursion InRange events → length events ≤ 800000 → length (replies_text (entries events) (board_places setup)) ≤ 34 * length events
+replies_within :
+    (setup : Setup) (events : List Event) → AllByRecursion InRange events → length events ≤ 800000
+    → length (replies_text (entries events) (board_places setup)) ≤ 34 * length events
 replies_within setup events r few =
     let fit = all_entries (length events) 0 [] events r (omega arith) (record { each = tt; few = omega arith }) in
-    let each = all_of (EntryFits (length events)) (λ e. length (entry_line e) ≤ 34) (λ e h. entry_short e (length events) (omega (arith, few)) h) (entries events) fit.each in
+    let each = all_of (EntryFits (length events)) (λ e. length (entry_line e) ≤ 34)
+    (λ e h. entry_short e (length events) (omega (arith, few)) h) (entries events) fit.each in
     let all = replies_counted (entries events) (board_places setup) each in
     let within = counted_within (board_places setup) (λ b. once 1 b setup.boards) (entries events) in
     omega (arith, all, within, fit.few)
 
-events_within : (events : List Event) → AllByRecursion InRange events → length (events_text events) ≤ 253 * length events
-events_within events r = flat_short line_of_event 253 events (all_of InRange (λ e. length (line_of_event e) ≤ 253) line_length events r)
+events_within :
+    (events : List Event) → AllByRecursion InRange events → length (events_text events) ≤ 253 * length events
+events_within events r =
+    flat_short line_of_event 253 events (all_of InRange (λ e. length (line_of_event e) ≤ 253) line_length events r)
 
 -- The parts of a text, added.
-parts_fit : (events replies memory copies : List ℕ) (count : ℕ) → count ≤ 800000 → length events ≤ 253 * count → length replies ≤ 34 * count → length memory ≤ 229376 → length copies ≤ 3866624
+parts_fit :
+    (events replies memory copies : List ℕ) (count : ℕ) → count ≤ 800000 → length events ≤ 253 * count
+    → length replies ≤ 34 * count → length memory ≤ 229376 → length copies ≤ 3866624
     → length (events ++ (line_bytes (codes "end" ∷ []) ++ (replies ++ (memory ++ copies)))) ≤ 268435456
 parts_fit events replies memory copies count few e r m c =
     let one = length-append events (line_bytes (codes "end" ∷ []) ++ (replies ++ (memory ++ copies))) in
@@ -147,5 +192,8 @@ run_texts_fit bounded setup events well accepted run spelled =
     let count = bounded setup events c well accepted run in
     let few : length events ≤ 800000 = omega (arith, count, well.accesses) in
     let words = all_words (opening setup) events spelled (opening_words setup well.words) in
-    parts_fit (events_text events) (replies_text (entries events) (board_places setup)) (all_memory c (line_count setup)) (all_copies c (line_count setup) (board_places setup)) (length events) few
-    (events_within events spelled) (replies_within setup events spelled few) (memory_within c (line_count setup) words well.lines_high) (copies_within setup c words well.lines_high well.boards_high)
+    parts_fit (events_text events) (replies_text (entries events) (board_places setup))
+    (all_memory c (line_count setup)) (all_copies c (line_count setup) (board_places setup)) (length events) few
+    (events_within events spelled) (replies_within setup events spelled few)
+    (memory_within c (line_count setup) words well.lines_high)
+    (copies_within setup c words well.lines_high well.boards_high)

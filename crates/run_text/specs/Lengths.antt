@@ -8,9 +8,11 @@ use Rattle.bus_model.specs.Configuration.{opening}
 use Rattle.bus_model.specs.Runs.{Run, after_all}
 use Rattle.run_text.specs.RunText.{run_text}
 
--- The text of every run of a setup within its limits has at most the 268,435,456 bytes that a trace may have.
+-- The text of every run of a setup within its limits has at most the 268,435,456 bytes that a trace
+-- may have.
 abbrev pub RunTextsFit : Type 0
 RunTextsFit =
     (setup : Setup) (events : List Event)
-    → WellFormed setup → AllInClass setup → Run setup events (after_all (opening setup) events) → AllByRecursion InRange events
+    → WellFormed setup → AllInClass setup → Run setup events (after_all (opening setup) events)
+    → AllByRecursion InRange events
     → length (run_text setup events (after_all (opening setup) events)) ≤ 268435456

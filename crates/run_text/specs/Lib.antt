@@ -1,3 +1,4 @@
+pub mod RunLines
 pub mod Lines
 pub mod RunText
 pub mod Printing

@@ -17,7 +17,8 @@ numbers_below (suc n) = numbers_below n ++ n ∷ []
 abbrev pub reply_line : ℕ → ℕ → ℕ → Option ℕ → List ℕ
 reply_line board place address None = []
 reply_line board place address (Some word) =
-    line_bytes (codes "answer" ∷ decimal board ∷ decimal place ∷ decimal address ∷ decimal word ∷ [])
+    line_bytes
+    (codes "answer" ∷ decimal board ∷ decimal place ∷ decimal address ∷ decimal word ∷ [])
 
 -- The line of the reply to a completed access, where it is a read.
 abbrev pub access_line : ℕ → ℕ → Access → Option ℕ → List ℕ
@@ -35,7 +36,8 @@ memory_text line words = line_bytes (codes "memory" ∷ decimal line ∷ map dec
 
 -- The line of a copy: the board, the line, the state and the words.
 abbrev pub copy_text : ℕ → ℕ → State → List ℕ → List ℕ
-copy_text board line state words = line_bytes (codes "copy" ∷ decimal board ∷ decimal line ∷ state_word state ∷ map decimal words)
+copy_text board line state words =
+    line_bytes (codes "copy" ∷ decimal board ∷ decimal line ∷ state_word state ∷ map decimal words)
 
 -- The line of the copy that a board has of a line, if it has one.
 abbrev pub row_text : ℕ → ℕ → Option Row → List ℕ

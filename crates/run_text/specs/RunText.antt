@@ -49,4 +49,5 @@ events_text events = flat_map line_of_event events
 
 -- The text of a run.
 abbrev pub run_text : Setup → List Event → Configuration → List ℕ
-run_text setup events c = events_text events ++ (line_bytes (codes "end" ∷ []) ++ ending setup events c)
+run_text setup events c =
+    events_text events ++ (line_bytes (codes "end" ∷ []) ++ ending setup events c)

@@ -41,7 +41,8 @@ impl Page {
 
     /// Writes the bytes that wait, and empties the page.
     pub(crate) fn flush<K: Sink>(&mut self, sink: &mut K) -> Result<(), PutFailed>
-        ensures printed { Printed (K.faults sink.old) (K.faults sink.new) (K.taken sink.old) (K.taken sink.new) self.old result }
+        ensures printed { Printed (K.faults sink.old) (K.faults sink.new) (K.taken sink.old)
+            (K.taken sink.new) self.old result }
         ensures empty { self.new ≡ [] }
     {
         let result = put_all(sink, self.bytes.as_slice());
@@ -51,7 +52,8 @@ impl Page {
 
     /// Appends a line, and first writes the bytes that wait where there is no room for it.
     pub(crate) fn add<K: Sink>(&mut self, line: &[u8], sink: &mut K) -> Result<(), PutFailed>
-        ensures paged { Paged (K.faults sink.old) (K.faults sink.new) (K.taken sink.old) (K.taken sink.new) self.old self.new line.now result }
+        ensures paged { Paged (K.faults sink.old) (K.faults sink.new) (K.taken sink.old)
+            (K.taken sink.new) self.old self.new line.now result }
     {
         if self.keep(line) {
             return Ok(());

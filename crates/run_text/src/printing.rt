@@ -4,18 +4,18 @@ ghost use Rattle.std.specs.Prelude.{◌≡◌, ◌≤◌, ◌+◌, ◌++◌, [],
 ghost use Rattle.std.specs.List.{flat_map, AllByRecursion};
 ghost use Rattle.trace_text.specs.Ranges.{InRange};
 ghost use Rattle.trace_text.specs.Spelling.{line_of_event};
-ghost use Rattle.run_lines.specs.RunLines.{IsTyped};
+ghost use Rattle.run_text.specs.RunLines.{IsTyped};
 ghost use Rattle.run_text.specs.Lines.{entry_line};
 ghost use Rattle.run_text.specs.RunText.{events_text};
 ghost use Rattle.run_text.specs.Printing.{Paged, IsReady};
 
 use crate::lines::write_reply;
 use crate::page::Page;
+use crate::spelling::is_typed;
 use fb_edge::{PutFailed, Sink};
 use fb_text::Text;
 use flat_memory::Entry;
 use journal::Event;
-use run_lines::is_typed;
 use trace_text::write_event;
 
 /// Prints a line and empties it.
@@ -24,7 +24,8 @@ pub(crate) fn print_line<K: Sink>(
     page: &mut Page,
     sink: &mut K,
 ) -> Result<(), PutFailed>
-    ensures paged { Paged (K.faults sink.old) (K.faults sink.new) (K.taken sink.old) (K.taken sink.new) page.old page.new line.old.bytes result }
+    ensures paged { Paged (K.faults sink.old) (K.faults sink.new) (K.taken sink.old)
+        (K.taken sink.new) page.old page.new line.old.bytes result }
     ensures empty { line.new.bytes ≡ [] }
     ensures room { line.new.spare ≡ line.old.spare + length line.old.bytes }
 {
@@ -42,7 +43,8 @@ fn print_event<K: Sink>(
 ) -> Result<(), PutFailed>
     requires ready { IsReady line.old }
     requires spelled { IsTyped event.now → InRange event.now }
-    ensures paged { Paged (K.faults sink.old) (K.faults sink.new) (K.taken sink.old) (K.taken sink.new) page.old page.new (line_of_event event.now) result }
+    ensures paged { Paged (K.faults sink.old) (K.faults sink.new) (K.taken sink.old)
+        (K.taken sink.new) page.old page.new (line_of_event event.now) result }
     ensures in_range { InRange event.now }
     ensures ready { IsReady line.new }
 {
@@ -60,7 +62,8 @@ pub(crate) fn print_events<K: Sink>(
 ) -> Result<(), PutFailed>
     requires ready { IsReady line.old }
     requires spelled { AllByRecursion (λ event. IsTyped event → InRange event) events.now }
-    ensures paged { Paged (K.faults sink.old) (K.faults sink.new) (K.taken sink.old) (K.taken sink.new) page.old page.new (events_text events.now) result }
+    ensures paged { Paged (K.faults sink.old) (K.faults sink.new) (K.taken sink.old)
+        (K.taken sink.new) page.old page.new (events_text events.now) result }
     // Each event has its line.
     ensures in_range { OnOk result (AllByRecursion InRange events.now) }
     ensures ready { IsReady line.new }
@@ -81,7 +84,8 @@ fn print_reply<K: Sink>(
     line: &mut Text,
 ) -> Result<(), PutFailed>
     requires ready { IsReady line.old }
-    ensures paged { Paged (K.faults sink.old) (K.faults sink.new) (K.taken sink.old) (K.taken sink.new) page.old page.new (entry_line entry.now) result }
+    ensures paged { Paged (K.faults sink.old) (K.faults sink.new) (K.taken sink.old)
+        (K.taken sink.new) page.old page.new (entry_line entry.now) result }
     ensures ready { IsReady line.new }
 {
     write_reply(entry, line);
@@ -96,7 +100,8 @@ pub(crate) fn print_replies<K: Sink>(
     line: &mut Text,
 ) -> Result<(), PutFailed>
     requires ready { IsReady line.old }
-    ensures paged { Paged (K.faults sink.old) (K.faults sink.new) (K.taken sink.old) (K.taken sink.new) page.old page.new (flat_map entry_line entries.now) result }
+    ensures paged { Paged (K.faults sink.old) (K.faults sink.new) (K.taken sink.old)
+        (K.taken sink.new) page.old page.new (flat_map entry_line entries.now) result }
     ensures ready { IsReady line.new }
 {
     for entry in entries {

@@ -13,11 +13,11 @@ ghost use Rattle.run_text.specs.Printing.{Printed, Paged, IsReady};
 use crate::lines::{write_copy, write_memory};
 use crate::page::Page;
 use crate::printing::{print_events, print_line, print_replies};
+use crate::spelling::runs_are_spelled;
 use backplane::Machine;
 use bus_signals::{BoardNo, LineNo};
 use fb_edge::{PutFailed, Sink};
 use fb_text::Text;
-use run_lines::runs_are_spelled;
 
 /// Prints the replies to the reads of a board.
 fn print_board_replies<K: Sink>(
@@ -29,7 +29,9 @@ fn print_board_replies<K: Sink>(
 ) -> Result<(), PutFailed>
     requires ready { IsReady line.old }
     requires board { IsBoard machine.now board }
-    ensures paged { Paged (K.faults sink.old) (K.faults sink.new) (K.taken sink.old) (K.taken sink.new) page.old page.new (board_replies (entries machine.now.journal) board) result }
+    ensures paged { Paged (K.faults sink.old) (K.faults sink.new) (K.taken sink.old)
+        (K.taken sink.new) page.old page.new (board_replies (entries machine.now.journal) board)
+        result }
     ensures ready { IsReady line.new }
 {
     print_replies(machine.replies(board), page, sink, line)
@@ -43,7 +45,9 @@ fn print_all_replies<K: Sink>(
     line: &mut Text,
 ) -> Result<(), PutFailed>
     requires ready { IsReady line.old }
-    ensures paged { Paged (K.faults sink.old) (K.faults sink.new) (K.taken sink.old) (K.taken sink.new) page.old page.new (replies_text (entries machine.now.journal) (board_places machine.now.setup)) result }
+    ensures paged { Paged (K.faults sink.old) (K.faults sink.new) (K.taken sink.old)
+        (K.taken sink.new) page.old page.new
+        (replies_text (entries machine.now.journal) (board_places machine.now.setup)) result }
     ensures ready { IsReady line.new }
 {
     for place in 0..machine.boards() {
@@ -64,7 +68,8 @@ fn print_memory_line<K: Sink>(
 ) -> Result<(), PutFailed>
     requires ready { IsReady line.old }
     requires number { number < line_count machine.now.setup }
-    ensures paged { Paged (K.faults sink.old) (K.faults sink.new) (K.taken sink.old) (K.taken sink.new) page.old page.new (memory_of (configuration machine.now) number) result }
+    ensures paged { Paged (K.faults sink.old) (K.faults sink.new) (K.taken sink.old)
+        (K.taken sink.new) page.old page.new (memory_of (configuration machine.now) number) result }
     ensures ready { IsReady line.new }
 {
     let words = machine.memory_line(LineNo(number));
@@ -80,7 +85,9 @@ fn print_memory<K: Sink>(
     line: &mut Text,
 ) -> Result<(), PutFailed>
     requires ready { IsReady line.old }
-    ensures paged { Paged (K.faults sink.old) (K.faults sink.new) (K.taken sink.old) (K.taken sink.new) page.old page.new (all_memory (configuration machine.now) (line_count machine.now.setup)) result }
+    ensures paged { Paged (K.faults sink.old) (K.faults sink.new) (K.taken sink.old)
+        (K.taken sink.new) page.old page.new
+        (all_memory (configuration machine.now) (line_count machine.now.setup)) result }
     ensures ready { IsReady line.new }
 {
     for number in 0..machine.lines() {
@@ -102,7 +109,9 @@ fn print_copy<K: Sink>(
 ) -> Result<(), PutFailed>
     requires ready { IsReady line.old }
     requires board { IsBoard machine.now board }
-    ensures paged { Paged (K.faults sink.old) (K.faults sink.new) (K.taken sink.old) (K.taken sink.new) page.old page.new (copy_of (configuration machine.now) board number) result }
+    ensures paged { Paged (K.faults sink.old) (K.faults sink.new) (K.taken sink.old)
+        (K.taken sink.new) page.old page.new (copy_of (configuration machine.now) board number)
+        result }
     ensures ready { IsReady line.new }
 {
     if let Some(copy) = machine.copy(board, LineNo(number)) {
@@ -122,7 +131,9 @@ fn print_copies<K: Sink>(
 ) -> Result<(), PutFailed>
     requires ready { IsReady line.old }
     requires board { IsBoard machine.now board }
-    ensures paged { Paged (K.faults sink.old) (K.faults sink.new) (K.taken sink.old) (K.taken sink.new) page.old page.new (board_copies (configuration machine.now) (line_count machine.now.setup) board) result }
+    ensures paged { Paged (K.faults sink.old) (K.faults sink.new) (K.taken sink.old)
+        (K.taken sink.new) page.old page.new
+        (board_copies (configuration machine.now) (line_count machine.now.setup) board) result }
     ensures ready { IsReady line.new }
 {
     for number in 0..machine.lines() {
@@ -141,7 +152,10 @@ fn print_all_copies<K: Sink>(
     line: &mut Text,
 ) -> Result<(), PutFailed>
     requires ready { IsReady line.old }
-    ensures paged { Paged (K.faults sink.old) (K.faults sink.new) (K.taken sink.old) (K.taken sink.new) page.old page.new (all_copies (configuration machine.now) (line_count machine.now.setup) (board_places machine.now.setup)) result }
+    ensures paged { Paged (K.faults sink.old) (K.faults sink.new) (K.taken sink.old)
+        (K.taken sink.new) page.old page.new
+        (all_copies (configuration machine.now) (line_count machine.now.setup)
+        (board_places machine.now.setup)) result }
     ensures ready { IsReady line.new }
 {
     for place in 0..machine.boards() {
@@ -160,7 +174,9 @@ fn print_ending_through<K: Sink>(
     line: &mut Text,
 ) -> Result<(), PutFailed>
     requires ready { IsReady line.old }
-    ensures paged { Paged (K.faults sink.old) (K.faults sink.new) (K.taken sink.old) (K.taken sink.new) page.old page.new (ending machine.now.setup machine.now.journal (configuration machine.now)) result }
+    ensures paged { Paged (K.faults sink.old) (K.faults sink.new) (K.taken sink.old)
+        (K.taken sink.new) page.old page.new
+        (ending machine.now.setup machine.now.journal (configuration machine.now)) result }
     ensures ready { IsReady line.new }
 {
     if let Err(failed) = print_all_replies(machine, page, sink, line) {
@@ -179,7 +195,9 @@ pub fn print_ending<K: Sink>(
     line: &mut Text,
 ) -> Result<(), PutFailed>
     requires ready { IsReady line.old }
-    ensures printed { Printed (K.faults sink.old) (K.faults sink.new) (K.taken sink.old) (K.taken sink.new) (ending machine.now.setup machine.now.journal (configuration machine.now)) result }
+    ensures printed { Printed (K.faults sink.old) (K.faults sink.new) (K.taken sink.old)
+        (K.taken sink.new)
+        (ending machine.now.setup machine.now.journal (configuration machine.now)) result }
     ensures ready { IsReady line.new }
 {
     let mut page = Page::new();
@@ -197,7 +215,8 @@ fn print_journal<K: Sink>(
     line: &mut Text,
 ) -> Result<(), PutFailed>
     requires ready { IsReady line.old }
-    ensures paged { Paged (K.faults sink.old) (K.faults sink.new) (K.taken sink.old) (K.taken sink.new) page.old page.new (events_text machine.now.journal) result }
+    ensures paged { Paged (K.faults sink.old) (K.faults sink.new) (K.taken sink.old)
+        (K.taken sink.new) page.old page.new (events_text machine.now.journal) result }
     ensures spelled { OnOk result (AllByRecursion InRange machine.now.journal) }
     ensures ready { IsReady line.new }
 {
@@ -208,7 +227,8 @@ fn print_journal<K: Sink>(
 /// Prints the line that stands after the events.
 fn print_end<K: Sink>(page: &mut Page, sink: &mut K, line: &mut Text) -> Result<(), PutFailed>
     requires ready { IsReady line.old }
-    ensures paged { Paged (K.faults sink.old) (K.faults sink.new) (K.taken sink.old) (K.taken sink.new) page.old page.new (line_bytes (codes "end" ∷ [])) result }
+    ensures paged { Paged (K.faults sink.old) (K.faults sink.new) (K.taken sink.old)
+        (K.taken sink.new) page.old page.new (line_bytes (codes "end" ∷ [])) result }
     ensures ready { IsReady line.new }
 {
     line.push(b"end\n");
@@ -223,7 +243,9 @@ fn print_run_through<K: Sink>(
     line: &mut Text,
 ) -> Result<(), PutFailed>
     requires ready { IsReady line.old }
-    ensures paged { Paged (K.faults sink.old) (K.faults sink.new) (K.taken sink.old) (K.taken sink.new) page.old page.new (run_text machine.now.setup machine.now.journal (configuration machine.now)) result }
+    ensures paged { Paged (K.faults sink.old) (K.faults sink.new) (K.taken sink.old)
+        (K.taken sink.new) page.old page.new
+        (run_text machine.now.setup machine.now.journal (configuration machine.now)) result }
     // Each event has its line.
     ensures spelled { OnOk result (AllByRecursion InRange machine.now.journal) }
     ensures ready { IsReady line.new }
@@ -240,7 +262,9 @@ fn print_run_through<K: Sink>(
 /// Prints the run of a machine: its events, `end`, and the ending.
 pub fn print_run<K: Sink>(machine: &Machine, sink: &mut K, line: &mut Text) -> Result<(), PutFailed>
     requires ready { IsReady line.old }
-    ensures printed { Printed (K.faults sink.old) (K.faults sink.new) (K.taken sink.old) (K.taken sink.new) (run_text machine.now.setup machine.now.journal (configuration machine.now)) result }
+    ensures printed { Printed (K.faults sink.old) (K.faults sink.new) (K.taken sink.old)
+        (K.taken sink.new)
+        (run_text machine.now.setup machine.now.journal (configuration machine.now)) result }
     // Each event has its line.
     ensures spelled { OnOk result (AllByRecursion InRange machine.now.journal) }
     ensures ready { IsReady line.new }

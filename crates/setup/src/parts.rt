@@ -2,7 +2,7 @@
 
 ghost use Rattle.std.specs.Prelude.{◌≡◌, ◌≤◌, ◌-◌, length, slice_index_or, []};
 ghost use Rattle.class_relation.specs.Rows.{rows};
-ghost use Rattle.table_check.specs.Setup.{WellFormed, access_count};
+ghost use Rattle.setup.specs.Setup.{WellFormed, access_count};
 
 use bus_signals::{Access, BoardNo};
 use class_relation::Table;
@@ -20,7 +20,7 @@ pub struct Setup {
 
 impl Model for Setup {
     ghost use Rattle.class_relation.specs.Rows.{rows};
-    ghost use Rattle.table_check.specs.Setup.{Setup, WellFormed};
+    ghost use Rattle.setup.specs.Setup.{Setup, WellFormed};
 
     ghost Value = { Setup };
 
@@ -30,16 +30,27 @@ impl Model for Setup {
 }
 
 impl Setup {
-    /// The setup of these parts. There is a script for each board, and each board names its table by the place in the
-    /// list, from 0.
+    /// The setup of these parts. There is a script for each board, and each board names its table
+    /// by the place in the list, from 0.
     pub fn of(
         memory: Vec<u32>,
         tables: Vec<Table>,
         boards: Vec<BoardSpec>,
         scripts: Vec<Vec<Access>>,
     ) -> Setup
-        requires { WellFormed (record { memory = memory.items; tables = tables.items; boards = boards.items; scripts = rows scripts.items }) }
-        ensures { result ≡ record { memory = memory.items; tables = tables.items; boards = boards.items; scripts = rows scripts.items } }
+        requires { WellFormed (record {
+          memory = memory.items;
+          tables = tables.items;
+          boards = boards.items;
+          scripts = rows scripts.items;
+        }) }
+        ensures { result
+            ≡ record {
+              memory = memory.items;
+              tables = tables.items;
+              boards = boards.items;
+              scripts = rows scripts.items;
+            } }
     {
         Setup {
             memory,

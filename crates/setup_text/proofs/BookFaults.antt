@@ -51,40 +51,71 @@ same_unfit x i k b = b
 no_rows : (name : List ℕ) (rest : List Words) → [] ≡ head_row name ∷ rest → ⊥
 no_rows name rest e = cc
 
-behind : (ts r : List TableText) (X : List Words) → BookFits r → tables_rows r ≡ tables_rows ts ++ X → (rest : List TableText) × AllByRecursion TableFits rest × (X ≡ tables_rows rest ++ [])
+behind :
+    (ts r : List TableText) (X : List Words) → BookFits r → tables_rows r ≡ tables_rows ts ++ X
+    → (rest : List TableText) × AllByRecursion TableFits rest × (X ≡ tables_rows rest ++ [])
 behind ts r X fits e = peel_tables ts r X [] fits.1 no_rows (sym e ∙ sym (append-nil (tables_rows r)))
 
-pub follows : (ts r : List TableText) (l : Words) (others : List Words) → BookFits r → tables_rows r ≡ tables_rows ts ++ l ∷ others → (name : List ℕ) × (is_name name ≡ true) × (l ≡ head_row name)
+pub follows :
+    (ts r : List TableText) (l : Words) (others : List Words) → BookFits r
+    → tables_rows r ≡ tables_rows ts ++ l ∷ others → (name : List ℕ) × (is_name name ≡ true) × (l ≡ head_row name)
 follows ts r l others fits e = go (behind ts r (l ∷ others) fits e)
   where
-    go : (rest : List TableText) × AllByRecursion TableFits rest × (l ∷ others ≡ tables_rows rest ++ []) → (name : List ℕ) × (is_name name ≡ true) × (l ≡ head_row name)
+    go :
+        (rest : List TableText) × AllByRecursion TableFits rest × (l ∷ others ≡ tables_rows rest ++ [])
+        → (name : List ℕ) × (is_name name ≡ true) × (l ≡ head_row name)
     go ([], f, h) = absurd cc
     go (u ∷ us, f, h) = let fit = f.0 in let here : l ≡ head_row u.name = cc in (u.name, fit.name, here)
 
-follows_open : (ts r : List TableText) (t : TableText) (l : Words) (others : List Words) → BookFits r → tables_rows r ≡ (tables_rows ts ++ open_table_rows t) ++ l ∷ others → InTable l
+follows_open :
+    (ts r : List TableText) (t : TableText) (l : Words) (others : List Words) → BookFits r
+    → tables_rows r ≡ (tables_rows ts ++ open_table_rows t) ++ l ∷ others → InTable l
 follows_open ts r t l others fits e =
-    let b = behind ts r (open_table_rows t ++ l ∷ others) fits (e ∙ append_assoc (tables_rows ts) (open_table_rows t) (l ∷ others)) in
+    let b = behind ts r (open_table_rows t ++ l ∷ others) fits
+    (e ∙ append_assoc (tables_rows ts) (open_table_rows t) (l ∷ others)) in
     table_follows t.name t.cells l others b.0 [] b.1 no_rows b.2
 
 some_more : (ts : List TableText) (t : TableText) → 0 < length (ts ++ t ∷ [])
 some_more ts t = omega (arith, length-append ts (t ∷ []))
 
-next_head : (ts : List TableText) → TablesStand ts → (name : List ℕ) → is_name name ≡ true → HasNext book_grammar tables_rows (tables_rows ts) (head_row name)
+next_head :
+    (ts : List TableText) → TablesStand ts → (name : List ℕ) → is_name name ≡ true
+    → HasNext book_grammar tables_rows (tables_rows ts) (head_row name)
 next_head ts s name is =
-    let t = table_text name [] in
-    (ts ++ t ∷ [], end_row ∷ [], (some_more ts t, each_push TableFits ts t s.fits (record { name = is; cells = tt })), flat_push table_rows ts t)
+    let t = table_text name [] in (
+      ts ++ t ∷ [],
+      end_row ∷ [],
+      (some_more ts t, each_push TableFits ts t s.fits (record { name = is; cells = tt })),
+      flat_push table_rows ts t,
+    )
 
-next_end : (ts : List TableText) (t : TableText) → TablesStand ts → TableStands (tables_of ts) t → HasNext book_grammar tables_rows (tables_rows ts ++ open_table_rows t) end_row
-next_end ts t s h = (ts ++ t ∷ [], [], (some_more ts t, each_push TableFits ts t s.fits h.fits), flat_push table_rows ts t ∙ rows_close (tables_rows ts) t)
+next_end :
+    (ts : List TableText) (t : TableText) → TablesStand ts → TableStands (tables_of ts) t
+    → HasNext book_grammar tables_rows (tables_rows ts ++ open_table_rows t) end_row
+next_end ts t s h = (
+  ts ++ t ∷ [],
+  [],
+  (some_more ts t, each_push TableFits ts t s.fits h.fits),
+  flat_push table_rows ts t ∙ rows_close (tables_rows ts) t,
+)
 
-next_cell : (ts : List TableText) (t : TableText) → TablesStand ts → TableStands (tables_of ts) t → (c : CellLine) → HasAlternative c → HasNext book_grammar tables_rows (tables_rows ts ++ open_table_rows t) (cell_words c)
+next_cell :
+    (ts : List TableText) (t : TableText) → TablesStand ts → TableStands (tables_of ts) t → (c : CellLine)
+    → HasAlternative c → HasNext book_grammar tables_rows (tables_rows ts ++ open_table_rows t) (cell_words c)
 next_cell ts t s h c some =
     let u = table_text t.name (t.cells ++ c ∷ []) in
     let fits = h.fits in (
       ts ++ u ∷ [],
       end_row ∷ [],
-      (some_more ts u, each_push TableFits ts u s.fits (record { name = fits.name; cells = each_push HasAlternative t.cells c fits.cells some })),
-      flat_push table_rows ts u ∙ (rows_close (tables_rows ts) u ∙ (ap (λ (x : List Words). x ++ end_row ∷ []) (rows_cell (tables_rows ts) t.name t.cells c) ∙ append_assoc (tables_rows ts ++ open_table_rows t) (cell_words c ∷ []) (end_row ∷ []))),
+      (
+        some_more ts u,
+        each_push TableFits ts u s.fits
+            (record { name = fits.name; cells = each_push HasAlternative t.cells c fits.cells some }),
+      ),
+      flat_push table_rows ts u
+          ∙ (rows_close (tables_rows ts) u
+          ∙ (ap (λ (x : List Words). x ++ end_row ∷ []) (rows_cell (tables_rows ts) t.name t.cells c)
+          ∙ append_assoc (tables_rows ts ++ open_table_rows t) (cell_words c ∷ []) (end_row ∷ []))),
     )
 
 -- ---- one line
@@ -92,46 +123,82 @@ next_cell ts t s h c some =
 cells_of : (ts : List TableText) (t : TableText) → TableStands (tables_of ts) t → AllByRecursion HasAlternative t.cells
 cells_of ts t h = let fits = h.fits in fits.cells
 
-breaking : (ts : List TableText) (t : TableText) → TablesStand ts → TableStands (tables_of ts) t → (words : Words) (here : List ℕ) (tk : TableKind) → BreaksCell (map cell_words t.cells) words here tk → BreaksBook (tables_rows ts ++ open_table_rows t) words here (kind_of tk)
-breaking ts t s h words here tk b = inr (ts, s, record { open_table = t; fits = h.fits; parts = refl; table_kind = tk; breaks = b; kind_is = refl })
+breaking :
+    (ts : List TableText) (t : TableText) → TablesStand ts → TableStands (tables_of ts) t
+    → (words : Words) (here : List ℕ) (tk : TableKind) → BreaksCell (map cell_words t.cells) words here tk
+    → BreaksBook (tables_rows ts ++ open_table_rows t) words here (kind_of tk)
+breaking ts t s h words here tk b =
+    inr (ts, s, record { open_table = t; fits = h.fits; parts = refl; table_kind = tk; breaks = b; kind_is = refl })
 
-open_stops : (ts : List TableText) (t : TableText) (n : ℕ) (l : Words) (rest : List Place) (tk : TableKind) → TablesStand ts → TableStands (tables_of ts) t → table_line (table_of t.name t.cells) l ≡ Err tk → FaultBehind book_grammar (tables_rows ts ++ open_table_rows t) (line_places n l rest) n (kind_of tk)
+open_stops :
+    (ts : List TableText) (t : TableText) (n : ℕ) (l : Words) (rest : List Place) (tk : TableKind) → TablesStand ts
+    → TableStands (tables_of ts) t → table_line (table_of t.name t.cells) l ≡ Err tk
+    → FaultBehind book_grammar (tables_rows ts ++ open_table_rows t) (line_places n l rest) n (kind_of tk)
 open_stops ts t n l rest tk s h e =
-    line_stops book_grammar tables_rows spelled BreaksBook same_breaks same_breaks same_unfit t.name t.cells (tables_rows ts ++ open_table_rows t) (cells_of ts t h) (λ r l others fits e. follows_open ts r t l others fits e) (next_cell ts t s h) (next_end ts t s h)
+    line_stops book_grammar tables_rows spelled BreaksBook same_breaks same_breaks same_unfit t.name t.cells
+    (tables_rows ts ++ open_table_rows t) (cells_of ts t h)
+    (λ r l others fits e. follows_open ts r t l others fits e) (next_cell ts t s h) (next_end ts t s h)
     (λ words here k j. book_breaks_open ts t words here k s j) (breaking ts t s h) n l rest tk e
 
-open_cell_free : (ts : List TableText) (t : TableText) (c : CellLine) → TablesStand ts → TableStands (tables_of ts) t → CanStand (table_of t.name t.cells) c → FreeFront BreaksBook (tables_rows ts ++ open_table_rows t) (cell_words c)
+open_cell_free :
+    (ts : List TableText) (t : TableText) (c : CellLine) → TablesStand ts → TableStands (tables_of ts) t
+    → CanStand (table_of t.name t.cells) c → FreeFront BreaksBook (tables_rows ts ++ open_table_rows t) (cell_words c)
 open_cell_free ts t c s h can =
-    cell_free book_grammar tables_rows spelled BreaksBook same_breaks same_breaks same_unfit t.name t.cells (tables_rows ts ++ open_table_rows t) (cells_of ts t h) (λ r l others fits e. follows_open ts r t l others fits e) (next_cell ts t s h) (next_end ts t s h)
+    cell_free book_grammar tables_rows spelled BreaksBook same_breaks same_breaks same_unfit t.name t.cells
+    (tables_rows ts ++ open_table_rows t) (cells_of ts t h)
+    (λ r l others fits e. follows_open ts r t l others fits e) (next_cell ts t s h) (next_end ts t s h)
     (λ words here k j. book_breaks_open ts t words here k s j) (breaking ts t s h) c can
 
-open_end_free : (ts : List TableText) (t : TableText) → TablesStand ts → TableStands (tables_of ts) t → FreeFront BreaksBook (tables_rows ts ++ open_table_rows t) end_row
+open_end_free :
+    (ts : List TableText) (t : TableText) → TablesStand ts → TableStands (tables_of ts) t
+    → FreeFront BreaksBook (tables_rows ts ++ open_table_rows t) end_row
 open_end_free ts t s h =
-    end_free book_grammar tables_rows spelled BreaksBook same_breaks same_breaks same_unfit t.name t.cells (tables_rows ts ++ open_table_rows t) (cells_of ts t h) (λ r l others fits e. follows_open ts r t l others fits e) (next_cell ts t s h) (next_end ts t s h)
+    end_free book_grammar tables_rows spelled BreaksBook same_breaks same_breaks same_unfit t.name t.cells
+    (tables_rows ts ++ open_table_rows t) (cells_of ts t h)
+    (λ r l others fits e. follows_open ts r t l others fits e) (next_cell ts t s h) (next_end ts t s h)
     (λ words here k j. book_breaks_open ts t words here k s j) (breaking ts t s h)
 
-head_only : (ts : List TableText) (r : List TableText) (l : Words) (others : List Words) → BookFits r → tables_rows r ≡ tables_rows ts ++ (codes "table" ∷ l) ∷ others → (name : List ℕ) × (is_name name ≡ true) × (l ≡ name ∷ [])
-head_only ts r l others fits e = let f = follows ts r (codes "table" ∷ l) others fits e in let both : codes "table" ∷ l ≡ head_row f.0 = f.2 in (f.0, f.1, cc)
+head_only :
+    (ts : List TableText) (r : List TableText) (l : Words) (others : List Words) → BookFits r
+    → tables_rows r ≡ tables_rows ts ++ (codes "table" ∷ l) ∷ others
+    → (name : List ℕ) × (is_name name ≡ true) × (l ≡ name ∷ [])
+head_only ts r l others fits e =
+    let f = follows ts r (codes "table" ∷ l) others fits e in
+    let both : codes "table" ∷ l ≡ head_row f.0 = f.2 in (f.0, f.1, cc)
 
-whole_head_stops : (ts : List TableText) (n : ℕ) (l : Words) (rest : List Place) (k : SetupKind) → TablesStand ts → head_line (tables_of ts) l ≡ Err k → FaultBehind book_grammar (tables_rows ts) (line_places n (codes "table" ∷ l) rest) n k
+whole_head_stops :
+    (ts : List TableText) (n : ℕ) (l : Words) (rest : List Place) (k : SetupKind) → TablesStand ts
+    → head_line (tables_of ts) l ≡ Err k
+    → FaultBehind book_grammar (tables_rows ts) (line_places n (codes "table" ∷ l) rest) n k
 whole_head_stops ts n l rest k s e =
     let sound = s.sound in
-    head_stops book_grammar tables_rows spelled BreaksBook same_breaks same_breaks same_unfit (tables_of ts) sound.few (tables_rows ts) (head_only ts) (next_head ts s)
-    (λ k j. book_breaks_whole ts [] (codes "table") k s j) (λ k j. inl (ts, s, refl, j)) (λ w k j. book_breaks_whole ts (codes "table" ∷ []) w k s j) (λ w k j. inl (ts, s, refl, j)) n l rest k e
+    head_stops book_grammar tables_rows spelled BreaksBook same_breaks same_breaks same_unfit (tables_of ts) sound.few
+    (tables_rows ts) (head_only ts) (next_head ts s)
+    (λ k j. book_breaks_whole ts [] (codes "table") k s j) (λ k j. inl (ts, s, refl, j))
+    (λ w k j. book_breaks_whole ts (codes "table" ∷ []) w k s j) (λ w k j. inl (ts, s, refl, j)) n l rest k e
 
-whole_head_free : (ts : List TableText) (name : List ℕ) → TablesStand ts → ReadsName (tables_of ts) (name ∷ []) name → FreeFront BreaksBook (tables_rows ts) (head_row name)
+whole_head_free :
+    (ts : List TableText) (name : List ℕ) → TablesStand ts → ReadsName (tables_of ts) (name ∷ []) name
+    → FreeFront BreaksBook (tables_rows ts) (head_row name)
 whole_head_free ts name s r =
     let sound = s.sound in
-    head_free book_grammar tables_rows spelled BreaksBook same_breaks same_breaks same_unfit (tables_of ts) sound.few (tables_rows ts) (head_only ts) (next_head ts s)
-    (λ k j. book_breaks_whole ts [] (codes "table") k s j) (λ k j. inl (ts, s, refl, j)) (λ w k j. book_breaks_whole ts (codes "table" ∷ []) w k s j) (λ w k j. inl (ts, s, refl, j)) name r.few r.new
+    head_free book_grammar tables_rows spelled BreaksBook same_breaks same_breaks same_unfit (tables_of ts) sound.few
+    (tables_rows ts) (head_only ts) (next_head ts s)
+    (λ k j. book_breaks_whole ts [] (codes "table") k s j) (λ k j. inl (ts, s, refl, j))
+    (λ w k j. book_breaks_whole ts (codes "table" ∷ []) w k s j) (λ w k j. inl (ts, s, refl, j)) name r.few r.new
 
 -- a line that does not begin with `table`
-no_head : (ts : List TableText) (n : ℕ) (l : Words) (rest : List Place) (k : SetupKind) → TablesStand ts → this_word (codes "table") l ≡ Err k → FaultBehind book_grammar (tables_rows ts) (line_places n l rest) n k
+no_head :
+    (ts : List TableText) (n : ℕ) (l : Words) (rest : List Place) (k : SetupKind) → TablesStand ts
+    → this_word (codes "table") l ≡ Err k → FaultBehind book_grammar (tables_rows ts) (line_places n l rest) n k
 no_head ts n [] rest k s e =
     let same : UnknownWord ≡ k = cc in
     let b = next_head ts s (codes "a") refl in
-    stops_in_line book_grammar tables_rows (text_end ∷ []) closed spelled BreaksBook same_breaks same_breaks (tables_rows ts) n [] rest [] None [] k refl (b.0, head_row (codes "a"), b.1, b.2, b.3) nothing
-    (unfit_fault book_grammar tables_rows (text_end ∷ []) closed spelled BreaksBook same_breaks same_breaks (tables_rows ts) [] None k none (record { earlier = tables_rows ts; words = []; before_is = refl; kind_is = sym same }))
+    stops_in_line book_grammar tables_rows (text_end ∷ []) closed spelled BreaksBook same_breaks same_breaks
+    (tables_rows ts) n [] rest [] None [] k refl (b.0, head_row (codes "a"), b.1, b.2, b.3) nothing
+    (unfit_fault book_grammar tables_rows (text_end ∷ []) closed spelled BreaksBook same_breaks same_breaks
+    (tables_rows ts) [] None k none
+    (record { earlier = tables_rows ts; words = []; before_is = refl; kind_is = sym same }))
   where
     nothing : FreeFront BreaksBook (tables_rows ts) []
     nothing [] w q e k j = cc
@@ -145,13 +212,18 @@ no_head ts n (w ∷ l) rest k s e = go (bytes_eq w (codes "table")) refl e
     nothing [] w q e k j = cc
     nothing (x ∷ p) w q e k j = cc
 
-    go : (b : Bool) → bytes_eq w (codes "table") ≡ b → cond b (Ok l) (Err UnknownWord) ≡ Err k → FaultBehind book_grammar (tables_rows ts) (line_places n (w ∷ l) rest) n k
+    go :
+        (b : Bool) → bytes_eq w (codes "table") ≡ b → cond b (Ok l) (Err UnknownWord) ≡ Err k
+        → FaultBehind book_grammar (tables_rows ts) (line_places n (w ∷ l) rest) n k
     go true h e = absurd cc
     go false h e =
         let same : UnknownWord ≡ k = cc in
         let b = next_head ts s (codes "a") refl in
-        stops_in_line book_grammar tables_rows (text_end ∷ []) closed spelled BreaksBook same_breaks same_breaks (tables_rows ts) n (w ∷ l) rest [] (Some w) l k refl (b.0, head_row (codes "a"), b.1, b.2, b.3) nothing
-        (unfit_fault book_grammar tables_rows (text_end ∷ []) closed spelled BreaksBook same_breaks same_breaks (tables_rows ts) [] (Some w) k none (record { earlier = tables_rows ts; words = []; before_is = refl; kind_is = sym same }))
+        stops_in_line book_grammar tables_rows (text_end ∷ []) closed spelled BreaksBook same_breaks same_breaks
+        (tables_rows ts) n (w ∷ l) rest [] (Some w) l k refl (b.0, head_row (codes "a"), b.1, b.2, b.3) nothing
+        (unfit_fault book_grammar tables_rows (text_end ∷ []) closed spelled BreaksBook same_breaks same_breaks
+        (tables_rows ts) [] (Some w) k none
+        (record { earlier = tables_rows ts; words = []; before_is = refl; kind_is = sym same }))
       where
         none : NoLine book_grammar tables_rows (tables_rows ts) [] (Some w)
         none r more others fits e =
@@ -162,45 +234,73 @@ no_head ts n (w ∷ l) rest k s e = go (bytes_eq w (codes "table")) refl e
             (let clash : true ≡ false = sym passed ∙ h in cc)
 
 -- a line that was refused
-line_faults : (p : BookPart) (n : ℕ) (l : Words) (rest : List Place) (k : SetupKind) → Good p → book_line (mode_of p) l ≡ Err k → FaultBehind book_grammar (rows_of p) (line_places n l rest) n k
+line_faults :
+    (p : BookPart) (n : ℕ) (l : Words) (rest : List Place) (k : SetupKind) → Good p → book_line (mode_of p) l ≡ Err k
+    → FaultBehind book_grammar (rows_of p) (line_places n l rest) n k
 line_faults (wholes ts) n l rest k s e = go (this_word (codes "table") l) refl e
   where
-    named_by : (x : Result (List ℕ) SetupKind) → (after : Words) → l ≡ codes "table" ∷ after → head_line (tables_of ts) after ≡ x → (x >>= λ name. Ok (within (tables_of ts) (empty_table name))) ≡ Err k → FaultBehind book_grammar (tables_rows ts) (line_places n l rest) n k
+    named_by :
+        (x : Result (List ℕ) SetupKind) → (after : Words) → l ≡ codes "table" ∷ after
+        → head_line (tables_of ts) after ≡ x → (x >>= λ name. Ok (within (tables_of ts) (empty_table name))) ≡ Err k
+        → FaultBehind book_grammar (tables_rows ts) (line_places n l rest) n k
     named_by (Ok name) after is h e = absurd cc
     named_by (Err j) after is h e =
         let same : j ≡ k = cc in
-        subst (λ (x : Words). FaultBehind book_grammar (tables_rows ts) (line_places n x rest) n k) (sym is) (whole_head_stops ts n after rest k s (h ∙ ap (λ (x : SetupKind). Err x) same))
+        subst (λ (x : Words). FaultBehind book_grammar (tables_rows ts) (line_places n x rest) n k) (sym is)
+        (whole_head_stops ts n after rest k s (h ∙ ap (λ (x : SetupKind). Err x) same))
 
-    go : (x : Result Words SetupKind) → this_word (codes "table") l ≡ x → (x >>= λ after. head_line (tables_of ts) after >>= λ name. Ok (within (tables_of ts) (empty_table name))) ≡ Err k → FaultBehind book_grammar (tables_rows ts) (line_places n l rest) n k
+    go :
+        (x : Result Words SetupKind) → this_word (codes "table") l ≡ x
+        → (x >>= λ after. head_line (tables_of ts) after >>= λ name. Ok (within (tables_of ts) (empty_table name)))
+        ≡ Err k → FaultBehind book_grammar (tables_rows ts) (line_places n l rest) n k
     go (Err j) h e = let same : j ≡ k = cc in no_head ts n l rest k s (h ∙ ap (λ (x : SetupKind). Err x) same)
     go (Ok after) h e = named_by (head_line (tables_of ts) after) after (word_read (codes "table") l after h) refl e
 line_faults (inside ts t) n l rest k good e = go (table_line (table_of t.name t.cells) l) refl e
   where
-    go : (x : Result (Bool × Table) TableKind) → table_line (table_of t.name t.cells) l ≡ x → (as_setup_kind x >>= λ t. Ok (after_book_line (tables_of ts) t)) ≡ Err k → FaultBehind book_grammar (tables_rows ts ++ open_table_rows t) (line_places n l rest) n k
+    go :
+        (x : Result (Bool × Table) TableKind) → table_line (table_of t.name t.cells) l ≡ x
+        → (as_setup_kind x >>= λ t. Ok (after_book_line (tables_of ts) t)) ≡ Err k
+        → FaultBehind book_grammar (tables_rows ts ++ open_table_rows t) (line_places n l rest) n k
     go (Ok u) h e = absurd cc
-    go (Err tk) h e = let same : kind_of tk ≡ k = cc in subst (λ (x : SetupKind). FaultBehind book_grammar (tables_rows ts ++ open_table_rows t) (line_places n l rest) n x) same (open_stops ts t n l rest tk good.0 good.1 h)
+    go (Err tk) h e =
+        let same : kind_of tk ≡ k = cc in
+        subst
+        (λ (x : SetupKind). FaultBehind book_grammar (tables_rows ts ++ open_table_rows t) (line_places n l rest) n x)
+        same (open_stops ts t n l rest tk good.0 good.1 h)
 
 -- a line that was read fails no side condition
-line_free : (p : BookPart) (l : Words) (m : BookMode) → Good p → book_line (mode_of p) l ≡ Ok m → FreeFront BreaksBook (rows_of p) l
+line_free :
+    (p : BookPart) (l : Words) (m : BookMode) → Good p → book_line (mode_of p) l ≡ Ok m
+    → FreeFront BreaksBook (rows_of p) l
 line_free (wholes ts) l m s e =
-    let a = binds (this_word (codes "table") l) (λ after. head_line (tables_of ts) after >>= λ name. Ok (within (tables_of ts) (empty_table name))) m e in
+    let a = binds (this_word (codes "table") l)
+    (λ after. head_line (tables_of ts) after >>= λ name. Ok (within (tables_of ts) (empty_table name))) m e in
     let b = binds (head_line (tables_of ts) a.value) (λ name. Ok (within (tables_of ts) (empty_table name))) m a.then in
     let r = head_read (tables_of ts) a.value b.value b.here in
-    let is : l ≡ head_row b.value = word_read (codes "table") l a.value a.here ∙ ap (λ (u : Words). codes "table" ∷ u) r.words in
-    subst (λ (x : Words). FreeFront BreaksBook (tables_rows ts) x) (sym is) (whole_head_free ts b.value s (record { words = refl; few = r.few; named_ = r.named_; new = r.new }))
+    let is : l ≡ head_row b.value =
+    word_read (codes "table") l a.value a.here ∙ ap (λ (u : Words). codes "table" ∷ u) r.words in
+    subst (λ (x : Words). FreeFront BreaksBook (tables_rows ts) x) (sym is)
+    (whole_head_free ts b.value s (record { words = refl; few = r.few; named_ = r.named_; new = r.new }))
 line_free (inside ts t) l m good e = go (table_line (table_of t.name t.cells) l) refl e
   where
-    go : (x : Result (Bool × Table) TableKind) → table_line (table_of t.name t.cells) l ≡ x → (as_setup_kind x >>= λ t. Ok (after_book_line (tables_of ts) t)) ≡ Ok m → FreeFront BreaksBook (tables_rows ts ++ open_table_rows t) l
+    go :
+        (x : Result (Bool × Table) TableKind) → table_line (table_of t.name t.cells) l ≡ x
+        → (as_setup_kind x >>= λ t. Ok (after_book_line (tables_of ts) t)) ≡ Ok m
+        → FreeFront BreaksBook (tables_rows ts ++ open_table_rows t) l
     go (Err tk) h e = absurd cc
     go (Ok (true, u)) h e =
         let is = table_line_takes (table_of t.name t.cells) l (true, u) (table_whole t) h in
-        subst (λ (x : Words). FreeFront BreaksBook (tables_rows ts ++ open_table_rows t) x) (sym is.0) (open_end_free ts t good.0 good.1)
+        subst (λ (x : Words). FreeFront BreaksBook (tables_rows ts ++ open_table_rows t) x) (sym is.0)
+        (open_end_free ts t good.0 good.1)
     go (Ok (false, u)) h e =
         let c = table_line_takes (table_of t.name t.cells) l (false, u) (table_whole t) h in
-        subst (λ (x : Words). FreeFront BreaksBook (tables_rows ts ++ open_table_rows t) x) (sym c.words) (open_cell_free ts t c.line good.0 good.1 c.can)
+        subst (λ (x : Words). FreeFront BreaksBook (tables_rows ts ++ open_table_rows t) x) (sym c.words)
+        (open_cell_free ts t c.line good.0 good.1 c.can)
 
 -- some text goes on with what was read
-completes : (p : BookPart) → Good p → (done : List Words) (l : Words) → rows_of p ≡ done ++ l ∷ [] → HasNext book_grammar tables_rows done l
+completes :
+    (p : BookPart) → Good p → (done : List Words) (l : Words) → rows_of p ≡ done ++ l ∷ []
+    → HasNext book_grammar tables_rows done l
 completes (wholes []) s done l e = absurd (nothing done e)
   where
     nothing : (done : List Words) → [] ≡ done ++ l ∷ [] → ⊥
@@ -208,8 +308,12 @@ completes (wholes []) s done l e = absurd (nothing done e)
     nothing (x ∷ done) e = cc
 completes (wholes (t ∷ ts)) s done l e = (t ∷ ts, [], (omega arith, s.fits), e)
 completes (inside ts t) good done l e =
-    let n = next_end ts t good.0 good.1 in
-    (n.0, end_row ∷ n.1, n.2, n.3 ∙ (ap (λ (x : List Words). x ++ end_row ∷ n.1) e ∙ append_assoc done (l ∷ []) (end_row ∷ n.1)))
+    let n = next_end ts t good.0 good.1 in (
+      n.0,
+      end_row ∷ n.1,
+      n.2,
+      n.3 ∙ (ap (λ (x : List Words). x ++ end_row ∷ n.1) e ∙ append_assoc done (l ∷ []) (end_row ∷ n.1)),
+    )
 
 -- ---- the end of the text
 
@@ -221,12 +325,17 @@ no_end_among (c ∷ cs) [] R e = (let same : cell_words c ≡ end_row = cc in no
     no_cell : (c : CellLine) → cell_words c ≡ end_row → ⊥
     no_cell (local s e alts) h = cc
     no_cell (answer s e alts) h = cc
-no_end_among (c ∷ cs) (d ∷ ds) R e = let rest : map cell_words cs ≡ map cell_words ds ++ (end_row ∷ R) = cc in no_end_among cs ds R rest
+no_end_among (c ∷ cs) (d ∷ ds) R e =
+    let rest : map cell_words cs ≡ map cell_words ds ++ (end_row ∷ R) = cc in no_end_among cs ds R rest
 
-ends_early : (p : BookPart) (end : ℕ) (f : Fault) → Good p → book_ends (mode_of p) end ≡ Err f → FaultBehind book_grammar (rows_of p) (lines_places [] end) f.line f.kind
+ends_early :
+    (p : BookPart) (end : ℕ) (f : Fault) → Good p → book_ends (mode_of p) end ≡ Err f
+    → FaultBehind book_grammar (rows_of p) (lines_places [] end) f.line f.kind
 ends_early (wholes []) end f s e =
     let same : record { line = end; kind = NoEnd } ≡ f = cc in
-    subst (λ (x : Fault). FaultBehind book_grammar [] (lines_places [] end) x.line x.kind) same (text_stops book_grammar tables_rows (text_end ∷ []) closed spelled BreaksBook same_breaks same_breaks [] end NoEnd never refl)
+    subst (λ (x : Fault). FaultBehind book_grammar [] (lines_places [] end) x.line x.kind) same
+    (text_stops book_grammar tables_rows (text_end ∷ []) closed spelled BreaksBook same_breaks same_breaks [] end
+    NoEnd never refl)
   where
     never : (r : List TableText) → BookFits r → tables_rows r ≡ [] → text_end ∷ [] ≡ text_end ∷ [] → ⊥
     never [] fits h k = (let some = fits.0 in omega arith)
@@ -234,39 +343,62 @@ ends_early (wholes []) end f s e =
 ends_early (wholes (t ∷ ts)) end f s e = absurd cc
 ends_early (inside ts t) end f good e =
     let same : record { line = end; kind = NoEnd } ≡ f = cc in
-    subst (λ (x : Fault). FaultBehind book_grammar (tables_rows ts ++ open_table_rows t) (lines_places [] end) x.line x.kind) same (text_stops book_grammar tables_rows (text_end ∷ []) closed spelled BreaksBook same_breaks same_breaks (tables_rows ts ++ open_table_rows t) end NoEnd never refl)
+    subst (λ (x : Fault).
+    FaultBehind book_grammar (tables_rows ts ++ open_table_rows t) (lines_places [] end) x.line x.kind) same
+    (text_stops book_grammar tables_rows (text_end ∷ []) closed spelled BreaksBook same_breaks same_breaks
+    (tables_rows ts ++ open_table_rows t) end NoEnd never refl)
   where
-    never : (r : List TableText) → BookFits r → tables_rows r ≡ tables_rows ts ++ open_table_rows t → text_end ∷ [] ≡ text_end ∷ [] → ⊥
+    never :
+        (r : List TableText) → BookFits r → tables_rows r ≡ tables_rows ts ++ open_table_rows t
+        → text_end ∷ [] ≡ text_end ∷ [] → ⊥
     never r fits h k = go (behind ts r (open_table_rows t) fits h)
       where
         go : (rest : List TableText) × AllByRecursion TableFits rest × (open_table_rows t ≡ tables_rows rest ++ []) → ⊥
         go ([], x, h) = cc
         go (u ∷ us, x, h) =
-            let parts : (table_rows u ++ tables_rows us) ++ [] ≡ head_row u.name ∷ (map cell_words u.cells ++ (end_row ∷ (tables_rows us ++ []))) = append_assoc (table_rows u) (tables_rows us) [] ∙ append_assoc (open_table_rows u) (end_row ∷ []) (tables_rows us ++ []) in
-            let both : open_table_rows t ≡ head_row u.name ∷ (map cell_words u.cells ++ (end_row ∷ (tables_rows us ++ []))) = h ∙ parts in
+            let parts : (table_rows u ++ tables_rows us) ++ []
+            ≡ head_row u.name ∷ (map cell_words u.cells ++ (end_row ∷ (tables_rows us ++ []))) =
+            append_assoc (table_rows u) (tables_rows us) []
+            ∙ append_assoc (open_table_rows u) (end_row ∷ []) (tables_rows us ++ []) in
+            let both : open_table_rows t
+            ≡ head_row u.name ∷ (map cell_words u.cells ++ (end_row ∷ (tables_rows us ++ []))) = h ∙ parts in
             let cells : map cell_words t.cells ≡ map cell_words u.cells ++ (end_row ∷ (tables_rows us ++ [])) = cc in
             no_end_among t.cells u.cells (tables_rows us ++ []) cells
 
 -- ---- all lines
 
-pub lines_fault : (p : BookPart) (ls : List Line) (end : ℕ) (f : Fault) → Good p → book_lines (mode_of p) ls end ≡ Err f → FaultBehind book_grammar (rows_of p) (lines_places ls end) f.line f.kind
+pub lines_fault :
+    (p : BookPart) (ls : List Line) (end : ℕ) (f : Fault) → Good p → book_lines (mode_of p) ls end ≡ Err f
+    → FaultBehind book_grammar (rows_of p) (lines_places ls end) f.line f.kind
 unfolding book_lines
 lines_fault p [] end f good e = ends_early p end f good e
 lines_fault p (l ∷ ls) end f good e = go (book_line (mode_of p) l.words) refl e (λ q h k. lines_fault q ls end f h k)
   where
-    go : (x : Result BookMode SetupKind) → book_line (mode_of p) l.words ≡ x → (on_line l.number x >>= λ next. book_lines next ls end) ≡ Err f → ((q : BookPart) → Good q → book_lines (mode_of q) ls end ≡ Err f → FaultBehind book_grammar (rows_of q) (lines_places ls end) f.line f.kind)
+    go :
+        (x : Result BookMode SetupKind) → book_line (mode_of p) l.words ≡ x
+        → (on_line l.number x >>= λ next. book_lines next ls end) ≡ Err f
+        → ((q : BookPart) → Good q → book_lines (mode_of q) ls end ≡ Err f
+        → FaultBehind book_grammar (rows_of q) (lines_places ls end) f.line f.kind)
         → FaultBehind book_grammar (rows_of p) (line_places l.number l.words (lines_places ls end)) f.line f.kind
     go (Err k) h e ih =
         let same : record { line = l.number; kind = k } ≡ f = cc in
-        subst (λ (x : Fault). FaultBehind book_grammar (rows_of p) (line_places l.number l.words (lines_places ls end)) x.line x.kind) same (line_faults p l.number l.words (lines_places ls end) k good h)
+        subst (λ (x : Fault).
+        FaultBehind book_grammar (rows_of p) (line_places l.number l.words (lines_places ls end)) x.line x.kind)
+        same (line_faults p l.number l.words (lines_places ls end) k good h)
     go (Ok m) h e ih =
         let g = line_takes p l.words m good h in
         let rest = ih g.next g.good (ap (λ (x : BookMode). book_lines x ls end) g.mode ∙ e) in
-        behind_line book_grammar tables_rows (text_end ∷ []) closed spelled BreaksBook same_breaks same_breaks (rows_of p) l.number l.words (lines_places ls end) f.line f.kind
-        (completes g.next g.good (rows_of p) l.words g.rows) (line_free p l.words m good h) (subst (λ (x : List Words). FaultBehind book_grammar x (lines_places ls end) f.line f.kind) g.rows rest)
+        behind_line book_grammar tables_rows (text_end ∷ []) closed spelled BreaksBook same_breaks same_breaks
+        (rows_of p) l.number l.words (lines_places ls end) f.line f.kind
+        (completes g.next g.good (rows_of p) l.words g.rows) (line_free p l.words m good h)
+        (subst (λ (x : List Words). FaultBehind book_grammar x (lines_places ls end) f.line f.kind) g.rows rest)
 
-pub is_first : {X : Type 0} (bytes : List ℕ) (view : X → List Table) (r : Result X SetupFault) → Answers view r (book_at (unread bytes)) → IfErr r (IsFirstFault book_grammar bytes)
+pub is_first :
+    {X : Type 0} (bytes : List ℕ) (view : X → List Table) (r : Result X SetupFault)
+    → Answers view r (book_at (unread bytes)) → IfErr r (IsFirstFault book_grammar bytes)
 is_first bytes view (Ok v) given = tt
 is_first bytes view (Err faults.NoMemory) given = tt
 is_first bytes view (Err (faults.Bad line kind)) given =
-    first_fault book_grammar (text_places bytes) line kind (lines_fault (wholes []) (unread bytes).lines (unread bytes).end (record { line = line; kind = kind }) nothing_stands given)
+    first_fault book_grammar (text_places bytes) line kind
+    (lines_fault (wholes []) (unread bytes).lines (unread bytes).end (record { line = line; kind = kind })
+    nothing_stands given)

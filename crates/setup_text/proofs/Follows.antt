@@ -24,33 +24,48 @@ NoHeadRow Y = (name : List ℕ) (rest : List Words) → Y ≡ head_row name ∷ 
 abbrev NoAccessRow : List Words → Type 0
 NoAccessRow Y = (a : Access) (rest : List Words) → Y ≡ access_row a ∷ rest → ⊥
 
-peel_words : (ws vs : List (ℕ × ℕ)) (X Y : List Words) → AllByRecursion WordFits vs → NoWordRow Y → map word_row ws ++ X ≡ map word_row vs ++ Y → (rest : List (ℕ × ℕ)) × AllByRecursion WordFits rest × (X ≡ map word_row rest ++ Y)
+peel_words :
+    (ws vs : List (ℕ × ℕ)) (X Y : List Words) → AllByRecursion WordFits vs → NoWordRow Y
+    → map word_row ws ++ X ≡ map word_row vs ++ Y
+    → (rest : List (ℕ × ℕ)) × AllByRecursion WordFits rest × (X ≡ map word_row rest ++ Y)
 peel_words [] vs X Y fits none e = (vs, fits, e)
 peel_words (w ∷ ws) [] X Y fits none e = absurd (none w (map word_row ws ++ X) (sym e))
-peel_words (w ∷ ws) (v ∷ vs) X Y fits none e = let rest : map word_row ws ++ X ≡ map word_row vs ++ Y = cc in peel_words ws vs X Y fits.1 none rest
+peel_words (w ∷ ws) (v ∷ vs) X Y fits none e =
+    let rest : map word_row ws ++ X ≡ map word_row vs ++ Y = cc in peel_words ws vs X Y fits.1 none rest
 
 no_cell_end : (c : CellLine) → cell_words c ≡ end_row → ⊥
 no_cell_end (local s e alts) h = cc
 no_cell_end (answer s e alts) h = cc
 
 -- the lines of one table, up to its end
-peel_cells : (cs ds : List CellLine) (X Y : List Words) → map cell_words cs ++ (end_row ∷ X) ≡ map cell_words ds ++ (end_row ∷ Y) → X ≡ Y
+peel_cells :
+    (cs ds : List CellLine) (X Y : List Words) → map cell_words cs ++ (end_row ∷ X) ≡ map cell_words ds ++ (end_row ∷ Y)
+    → X ≡ Y
 peel_cells [] [] X Y e = cc
 peel_cells [] (d ∷ ds) X Y e = absurd (let same : end_row ≡ cell_words d = cc in no_cell_end d (sym same))
 peel_cells (c ∷ cs) [] X Y e = absurd (let same : cell_words c ≡ end_row = cc in no_cell_end c same)
-peel_cells (c ∷ cs) (d ∷ ds) X Y e = let rest : map cell_words cs ++ (end_row ∷ X) ≡ map cell_words ds ++ (end_row ∷ Y) = cc in peel_cells cs ds X Y rest
+peel_cells (c ∷ cs) (d ∷ ds) X Y e =
+    let rest : map cell_words cs ++ (end_row ∷ X) ≡ map cell_words ds ++ (end_row ∷ Y) = cc in peel_cells cs ds X Y rest
 
-table_parts : (t : TableText) (X : List Words) → table_rows t ++ X ≡ head_row t.name ∷ (map cell_words t.cells ++ (end_row ∷ X))
+table_parts :
+    (t : TableText) (X : List Words) → table_rows t ++ X ≡ head_row t.name ∷ (map cell_words t.cells ++ (end_row ∷ X))
 table_parts t X = append_assoc (open_table_rows t) (end_row ∷ []) X
 
-pub peel_tables : (ts us : List TableText) (X Y : List Words) → AllByRecursion TableFits us → NoHeadRow Y → tables_rows ts ++ X ≡ tables_rows us ++ Y → (rest : List TableText) × AllByRecursion TableFits rest × (X ≡ tables_rows rest ++ Y)
+pub peel_tables :
+    (ts us : List TableText) (X Y : List Words) → AllByRecursion TableFits us → NoHeadRow Y
+    → tables_rows ts ++ X ≡ tables_rows us ++ Y
+    → (rest : List TableText) × AllByRecursion TableFits rest × (X ≡ tables_rows rest ++ Y)
 peel_tables [] us X Y fits none e = (us, fits, e)
 peel_tables (t ∷ ts) [] X Y fits none e =
-    absurd (none t.name (map cell_words t.cells ++ (end_row ∷ (tables_rows ts ++ X))) (sym e ∙ (append_assoc (table_rows t) (tables_rows ts) X ∙ table_parts t (tables_rows ts ++ X))))
+    absurd (none t.name (map cell_words t.cells ++ (end_row ∷ (tables_rows ts ++ X)))
+    (sym e ∙ (append_assoc (table_rows t) (tables_rows ts) X ∙ table_parts t (tables_rows ts ++ X))))
 peel_tables (t ∷ ts) (u ∷ us) X Y fits none e =
-    let both : head_row t.name ∷ (map cell_words t.cells ++ (end_row ∷ (tables_rows ts ++ X))) ≡ head_row u.name ∷ (map cell_words u.cells ++ (end_row ∷ (tables_rows us ++ Y))) =
-    sym (append_assoc (table_rows t) (tables_rows ts) X ∙ table_parts t (tables_rows ts ++ X)) ∙ (e ∙ (append_assoc (table_rows u) (tables_rows us) Y ∙ table_parts u (tables_rows us ++ Y))) in
-    let rest : map cell_words t.cells ++ (end_row ∷ (tables_rows ts ++ X)) ≡ map cell_words u.cells ++ (end_row ∷ (tables_rows us ++ Y)) = cc in
+    let both : head_row t.name ∷ (map cell_words t.cells ++ (end_row ∷ (tables_rows ts ++ X)))
+    ≡ head_row u.name ∷ (map cell_words u.cells ++ (end_row ∷ (tables_rows us ++ Y))) =
+    sym (append_assoc (table_rows t) (tables_rows ts) X ∙ table_parts t (tables_rows ts ++ X))
+    ∙ (e ∙ (append_assoc (table_rows u) (tables_rows us) Y ∙ table_parts u (tables_rows us ++ Y))) in
+    let rest : map cell_words t.cells ++ (end_row ∷ (tables_rows ts ++ X))
+    ≡ map cell_words u.cells ++ (end_row ∷ (tables_rows us ++ Y)) = cc in
     peel_tables ts us X Y fits.1 none (peel_cells t.cells u.cells (tables_rows ts ++ X) (tables_rows us ++ Y) rest)
 
 -- what can stand in a table after some of its cell lines
@@ -58,19 +73,28 @@ pub data InTable (l : Words) : Type 0 where
   cell : (c : CellLine) → HasAlternative c → l ≡ cell_words c → InTable l
   closes : l ≡ end_row → InTable l
 
-pub table_follows : (name : List ℕ) (cs : List CellLine) (l : Words) (others : List Words) (us : List TableText) (Y : List Words) → AllByRecursion TableFits us → NoHeadRow Y → open_table_rows (table_text name cs) ++ (l ∷ others) ≡ tables_rows us ++ Y → InTable l
+pub table_follows :
+    (name : List ℕ) (cs : List CellLine) (l : Words) (others : List Words) (us : List TableText) (Y : List Words)
+    → AllByRecursion TableFits us → NoHeadRow Y
+    → open_table_rows (table_text name cs) ++ (l ∷ others) ≡ tables_rows us ++ Y → InTable l
 table_follows name cs l others [] Y fits none e = absurd (none name (map cell_words cs ++ (l ∷ others)) (sym e))
 table_follows name cs l others (u ∷ us) Y fits none e =
-    let both : head_row name ∷ (map cell_words cs ++ (l ∷ others)) ≡ head_row u.name ∷ (map cell_words u.cells ++ (end_row ∷ (tables_rows us ++ Y))) = e ∙ (append_assoc (table_rows u) (tables_rows us) Y ∙ table_parts u (tables_rows us ++ Y)) in
+    let both : head_row name ∷ (map cell_words cs ++ (l ∷ others))
+    ≡ head_row u.name ∷ (map cell_words u.cells ++ (end_row ∷ (tables_rows us ++ Y))) =
+    e ∙ (append_assoc (table_rows u) (tables_rows us) Y ∙ table_parts u (tables_rows us ++ Y)) in
     let rest : map cell_words cs ++ (l ∷ others) ≡ map cell_words u.cells ++ (end_row ∷ (tables_rows us ++ Y)) = cc in
     let both_fit = fits.0 in
     go cs u.cells both_fit.cells rest
   where
-    go : (cs ds : List CellLine) → AllByRecursion HasAlternative ds → map cell_words cs ++ (l ∷ others) ≡ map cell_words ds ++ (end_row ∷ (tables_rows us ++ Y)) → InTable l
+    go :
+        (cs ds : List CellLine) → AllByRecursion HasAlternative ds
+        → map cell_words cs ++ (l ∷ others) ≡ map cell_words ds ++ (end_row ∷ (tables_rows us ++ Y)) → InTable l
     go [] [] some e = let a : l ≡ end_row = cc in closes a
     go [] (d ∷ ds) some e = let a : l ≡ cell_words d = cc in cell d some.0 a
     go (c ∷ cs) [] some e = absurd (let same : cell_words c ≡ end_row = cc in no_cell_end c same)
-    go (c ∷ cs) (d ∷ ds) some e = let rest : map cell_words cs ++ (l ∷ others) ≡ map cell_words ds ++ (end_row ∷ (tables_rows us ++ Y)) = cc in go cs ds some.1 rest
+    go (c ∷ cs) (d ∷ ds) some e =
+        let rest : map cell_words cs ++ (l ∷ others) ≡ map cell_words ds ++ (end_row ∷ (tables_rows us ++ Y)) = cc in
+        go cs ds some.1 rest
 
 -- ---- boards
 
@@ -96,28 +120,45 @@ boards_rows [] = []
 boards_rows (b ∷ bs) = board_rows b ++ boards_rows bs
 
 -- the accesses of a board, and what stands after them
-peel_accesses : (ps cs : List Access) (bs ds : List BoardText) (l : Words) (others : List Words) → AllByRecursion AccessFits cs → map access_row ps ++ (boards_rows bs ++ (l ∷ others)) ≡ map access_row cs ++ (boards_rows ds ++ (end_row ∷ []))
-    → (boards_rows bs ++ (l ∷ others) ≡ boards_rows ds ++ (end_row ∷ [])) ⊎ ((a : Access) × AccessFits a × (l ≡ access_row a))
+peel_accesses :
+    (ps cs : List Access) (bs ds : List BoardText) (l : Words) (others : List Words) → AllByRecursion AccessFits cs
+    → map access_row ps ++ (boards_rows bs ++ (l ∷ others)) ≡ map access_row cs ++ (boards_rows ds ++ (end_row ∷ []))
+    → (boards_rows bs ++ (l ∷ others) ≡ boards_rows ds ++ (end_row ∷ []))
+    ⊎ ((a : Access) × AccessFits a × (l ≡ access_row a))
 peel_accesses [] [] bs ds l others fits e = inl e
 peel_accesses [] (c ∷ cs) [] ds l others fits e = inr (c, fits.0, cc)
-peel_accesses [] (c ∷ cs) (b ∷ bs) ds l others fits e = absurd (let same : board_row b ≡ access_row c = cc in no_access_board c b (sym same))
-peel_accesses (a ∷ ps) [] bs [] l others fits e = absurd (let same : access_row a ≡ end_row = cc in no_access_end a same)
-peel_accesses (a ∷ ps) [] bs (d ∷ ds) l others fits e = absurd (let same : access_row a ≡ board_row d = cc in no_access_board a d same)
-peel_accesses (a ∷ ps) (c ∷ cs) bs ds l others fits e = let rest : map access_row ps ++ (boards_rows bs ++ (l ∷ others)) ≡ map access_row cs ++ (boards_rows ds ++ (end_row ∷ [])) = cc in peel_accesses ps cs bs ds l others fits.1 rest
+peel_accesses [] (c ∷ cs) (b ∷ bs) ds l others fits e =
+    absurd (let same : board_row b ≡ access_row c = cc in no_access_board c b (sym same))
+peel_accesses (a ∷ ps) [] bs [] l others fits e =
+    absurd (let same : access_row a ≡ end_row = cc in no_access_end a same)
+peel_accesses (a ∷ ps) [] bs (d ∷ ds) l others fits e =
+    absurd (let same : access_row a ≡ board_row d = cc in no_access_board a d same)
+peel_accesses (a ∷ ps) (c ∷ cs) bs ds l others fits e =
+    let rest : map access_row ps ++ (boards_rows bs ++ (l ∷ others))
+    ≡ map access_row cs ++ (boards_rows ds ++ (end_row ∷ [])) =
+    cc in
+    peel_accesses ps cs bs ds l others fits.1 rest
 
-longer : (b : BoardText) (bs : List BoardText) (l : Words) (others : List Words) → InBoards bs l others → InBoards (b ∷ bs) l others
+longer :
+    (b : BoardText) (bs : List BoardText) (l : Words) (others : List Words) → InBoards bs l others
+    → InBoards (b ∷ bs) l others
 longer b bs l others (board c fits e) = board c fits e
 longer b bs l others (access a fits e some) = access a fits e (omega arith)
 longer b bs l others (ends e none) = ends e none
 
-boards_follow : (bs ds : List BoardText) (l : Words) (others : List Words) → AllByRecursion BoardFits ds → boards_rows bs ++ (l ∷ others) ≡ boards_rows ds ++ (end_row ∷ []) → InBoards bs l others
+boards_follow :
+    (bs ds : List BoardText) (l : Words) (others : List Words) → AllByRecursion BoardFits ds
+    → boards_rows bs ++ (l ∷ others) ≡ boards_rows ds ++ (end_row ∷ []) → InBoards bs l others
 boards_follow [] [] l others fits e = let a : l ≡ end_row = cc in let b : others ≡ [] = cc in ends a b
 boards_follow [] (d ∷ ds) l others fits e = let a : l ≡ board_row d = cc in board d fits.0 a
 boards_follow (b ∷ bs) [] l others fits e = absurd cc
 boards_follow (b ∷ bs) (d ∷ ds) l others fits e =
-    let both : board_row b ∷ (map access_row b.script ++ (boards_rows bs ++ (l ∷ others))) ≡ board_row d ∷ (map access_row d.script ++ (boards_rows ds ++ (end_row ∷ []))) =
-    sym (append_assoc (board_rows b) (boards_rows bs) (l ∷ others)) ∙ (e ∙ append_assoc (board_rows d) (boards_rows ds) (end_row ∷ [])) in
-    let rest : map access_row b.script ++ (boards_rows bs ++ (l ∷ others)) ≡ map access_row d.script ++ (boards_rows ds ++ (end_row ∷ [])) = cc in
+    let both : board_row b ∷ (map access_row b.script ++ (boards_rows bs ++ (l ∷ others)))
+    ≡ board_row d ∷ (map access_row d.script ++ (boards_rows ds ++ (end_row ∷ []))) =
+    sym (append_assoc (board_rows b) (boards_rows bs) (l ∷ others))
+    ∙ (e ∙ append_assoc (board_rows d) (boards_rows ds) (end_row ∷ [])) in
+    let rest : map access_row b.script ++ (boards_rows bs ++ (l ∷ others))
+    ≡ map access_row d.script ++ (boards_rows ds ++ (end_row ∷ [])) = cc in
     let first_fits = fits.0 in
     elim (peel_accesses b.script d.script bs ds l others first_fits.script rest) [
       | inl h ↦ longer b bs l others (boards_follow bs ds l others fits.1 h)
@@ -139,39 +180,67 @@ no_head_boards : (ds : List BoardText) → NoHeadRow (boards_rows ds ++ (end_row
 no_head_boards [] name rest e = cc
 no_head_boards (d ∷ ds) name rest e = cc
 
-no_word_tables : (us : List TableText) (ds : List BoardText) → NoWordRow (tables_rows us ++ (boards_rows ds ++ (end_row ∷ [])))
+no_word_tables :
+    (us : List TableText) (ds : List BoardText) → NoWordRow (tables_rows us ++ (boards_rows ds ++ (end_row ∷ [])))
 no_word_tables [] ds w rest e = no_word_boards ds w rest e
 no_word_tables (u ∷ us) ds w rest e = cc
 
 -- the lines of a setup with what stands after them
-rows_open : (s : SetupText) (X : List Words) → open_rows s ++ X ≡ memory_row s.lines ∷ (map word_row s.words ++ (tables_rows s.tables ++ (boards_rows s.boards ++ X)))
+rows_open :
+    (s : SetupText) (X : List Words)
+    → open_rows s ++ X
+    ≡ memory_row s.lines ∷ (map word_row s.words ++ (tables_rows s.tables ++ (boards_rows s.boards ++ X)))
 rows_open s X =
-    ap (λ (v : List Words). memory_row s.lines ∷ v) (append_assoc (map word_row s.words) (tables_rows s.tables ++ boards_rows s.boards) X ∙ ap (λ (v : List Words). map word_row s.words ++ v) (append_assoc (tables_rows s.tables) (boards_rows s.boards) X))
+    ap (λ (v : List Words). memory_row s.lines ∷ v)
+    (append_assoc (map word_row s.words) (tables_rows s.tables ++ boards_rows s.boards) X
+    ∙ ap (λ (v : List Words). map word_row s.words ++ v)
+    (append_assoc (tables_rows s.tables) (boards_rows s.boards) X))
 
 abbrev Behind : SetupText → List Words → Type 0
-Behind s X = (vs : List (ℕ × ℕ)) × (us : List TableText) × (ds : List BoardText) × AllByRecursion WordFits vs × AllByRecursion TableFits us × AllByRecursion BoardFits ds × (tables_rows s.tables ++ (boards_rows s.boards ++ X) ≡ map word_row vs ++ (tables_rows us ++ (boards_rows ds ++ (end_row ∷ []))))
+Behind s X =
+    (vs : List (ℕ × ℕ)) × (us : List TableText) × (ds : List BoardText) × AllByRecursion WordFits vs
+    × AllByRecursion TableFits us × AllByRecursion BoardFits ds
+    × (tables_rows s.tables ++ (boards_rows s.boards ++ X)
+    ≡ map word_row vs ++ (tables_rows us ++ (boards_rows ds ++ (end_row ∷ []))))
 
 behind : (s r : SetupText) (X : List Words) → SetupFits r → setup_rows r ≡ open_rows s ++ X → Behind s X
 behind s r X fits e =
-    let both : memory_row s.lines ∷ (map word_row s.words ++ (tables_rows s.tables ++ (boards_rows s.boards ++ X))) ≡ memory_row r.lines ∷ (map word_row r.words ++ (tables_rows r.tables ++ (boards_rows r.boards ++ (end_row ∷ [])))) =
+    let both : memory_row s.lines ∷ (map word_row s.words ++ (tables_rows s.tables ++ (boards_rows s.boards ++ X)))
+    ≡ memory_row r.lines
+    ∷ (map word_row r.words ++ (tables_rows r.tables ++ (boards_rows r.boards ++ (end_row ∷ [])))) =
     sym (rows_open s X) ∙ (sym e ∙ rows_open r (end_row ∷ [])) in
-    let rest : map word_row s.words ++ (tables_rows s.tables ++ (boards_rows s.boards ++ X)) ≡ map word_row r.words ++ (tables_rows r.tables ++ (boards_rows r.boards ++ (end_row ∷ []))) = cc in
-    let p = peel_words s.words r.words (tables_rows s.tables ++ (boards_rows s.boards ++ X)) (tables_rows r.tables ++ (boards_rows r.boards ++ (end_row ∷ []))) fits.words (no_word_tables r.tables r.boards) rest in
+    let rest : map word_row s.words ++ (tables_rows s.tables ++ (boards_rows s.boards ++ X))
+    ≡ map word_row r.words ++ (tables_rows r.tables ++ (boards_rows r.boards ++ (end_row ∷ []))) = cc in
+    let p = peel_words s.words r.words (tables_rows s.tables ++ (boards_rows s.boards ++ X))
+    (tables_rows r.tables ++ (boards_rows r.boards ++ (end_row ∷ []))) fits.words (no_word_tables r.tables r.boards)
+    rest in
     (p.0, r.tables, r.boards, p.1, fits.tables, fits.boards, p.2)
 
 -- a line after the lines of a setup
-pub follows : (s r : SetupText) (l : Words) (others : List Words) → SetupFits r → setup_rows r ≡ open_rows s ++ l ∷ others → Follows s l others
+pub follows :
+    (s r : SetupText) (l : Words) (others : List Words) → SetupFits r → setup_rows r ≡ open_rows s ++ l ∷ others
+    → Follows s l others
 follows s r l others fits e = words (behind s r (l ∷ others) fits e)
   where
-    tables : (us : List TableText) (ds : List BoardText) → AllByRecursion TableFits us → AllByRecursion BoardFits ds → (bs : List BoardText) → s.boards ≡ bs → boards_rows bs ++ (l ∷ others) ≡ tables_rows us ++ (boards_rows ds ++ (end_row ∷ [])) → Follows s l others
-    tables [] ds fu fd bs same e = next (subst (λ (x : List BoardText). InBoards x l others) (sym same) (boards_follow bs ds l others fd e))
-    tables (u ∷ us) ds fu fd [] same e = let fit = fu.0 in let here : l ≡ head_row u.name = cc in head u.name fit.name here same
+    tables :
+        (us : List TableText) (ds : List BoardText) → AllByRecursion TableFits us → AllByRecursion BoardFits ds
+        → (bs : List BoardText) → s.boards ≡ bs
+        → boards_rows bs ++ (l ∷ others) ≡ tables_rows us ++ (boards_rows ds ++ (end_row ∷ [])) → Follows s l others
+    tables [] ds fu fd bs same e =
+        next (subst (λ (x : List BoardText). InBoards x l others) (sym same) (boards_follow bs ds l others fd e))
+    tables (u ∷ us) ds fu fd [] same e =
+        let fit = fu.0 in let here : l ≡ head_row u.name = cc in head u.name fit.name here same
     tables (u ∷ us) ds fu fd (b ∷ bs) same e = absurd cc
 
-    no_words : (vs : List (ℕ × ℕ)) (us : List TableText) (ds : List BoardText) → AllByRecursion WordFits vs → AllByRecursion TableFits us → AllByRecursion BoardFits ds → (ts : List TableText) (bs : List BoardText) → s.tables ≡ ts → s.boards ≡ bs
-        → tables_rows ts ++ (boards_rows bs ++ (l ∷ others)) ≡ map word_row vs ++ (tables_rows us ++ (boards_rows ds ++ (end_row ∷ []))) → Follows s l others
+    no_words :
+        (vs : List (ℕ × ℕ)) (us : List TableText) (ds : List BoardText) → AllByRecursion WordFits vs
+        → AllByRecursion TableFits us → AllByRecursion BoardFits ds → (ts : List TableText) (bs : List BoardText)
+        → s.tables ≡ ts → s.boards ≡ bs
+        → tables_rows ts ++ (boards_rows bs ++ (l ∷ others))
+        ≡ map word_row vs ++ (tables_rows us ++ (boards_rows ds ++ (end_row ∷ []))) → Follows s l others
     no_words [] us ds fv fu fd ts bs st sb e =
-        let p = peel_tables ts us (boards_rows bs ++ (l ∷ others)) (boards_rows ds ++ (end_row ∷ [])) fu (no_head_boards ds) e in
+        let p = peel_tables ts us (boards_rows bs ++ (l ∷ others)) (boards_rows ds ++ (end_row ∷ [])) fu
+        (no_head_boards ds) e in
         tables p.0 ds p.1 fd bs sb p.2
     no_words (v ∷ vs) us ds fv fu fd [] [] st sb e = (let here : l ≡ word_row v = cc in word v fv.0 here st sb)
     no_words (v ∷ vs) us ds fv fu fd [] (b ∷ bs) st sb e = absurd cc
@@ -181,22 +250,36 @@ follows s r l others fits e = words (behind s r (l ∷ others) fits e)
     words (vs, us, ds, fv, fu, fd, e) = no_words vs us ds fv fu fd s.tables s.boards refl refl e
 
 -- a line after the lines of an open table
-pub follows_open : (s r : SetupText) (t : TableText) (l : Words) (others : List Words) → s.boards ≡ [] → SetupFits r → setup_rows r ≡ (open_rows s ++ open_table_rows t) ++ l ∷ others → InTable l
-follows_open s r t l others none fits e = go (behind s r (open_table_rows t ++ l ∷ others) fits (e ∙ append_assoc (open_rows s) (open_table_rows t) (l ∷ others)))
+pub follows_open :
+    (s r : SetupText) (t : TableText) (l : Words) (others : List Words) → s.boards ≡ [] → SetupFits r
+    → setup_rows r ≡ (open_rows s ++ open_table_rows t) ++ l ∷ others → InTable l
+follows_open s r t l others none fits e =
+    go (behind s r (open_table_rows t ++ l ∷ others) fits
+    (e ∙ append_assoc (open_rows s) (open_table_rows t) (l ∷ others)))
   where
-    no_words : (vs : List (ℕ × ℕ)) (us : List TableText) (ds : List BoardText) → AllByRecursion TableFits us → (ts : List TableText) → tables_rows ts ++ (open_table_rows t ++ l ∷ others) ≡ map word_row vs ++ (tables_rows us ++ (boards_rows ds ++ (end_row ∷ []))) → InTable l
+    no_words :
+        (vs : List (ℕ × ℕ)) (us : List TableText) (ds : List BoardText) → AllByRecursion TableFits us
+        → (ts : List TableText)
+        → tables_rows ts ++ (open_table_rows t ++ l ∷ others)
+        ≡ map word_row vs ++ (tables_rows us ++ (boards_rows ds ++ (end_row ∷ []))) → InTable l
     no_words [] us ds fu ts e =
-        let p = peel_tables ts us (open_table_rows t ++ l ∷ others) (boards_rows ds ++ (end_row ∷ [])) fu (no_head_boards ds) e in
+        let p = peel_tables ts us (open_table_rows t ++ l ∷ others) (boards_rows ds ++ (end_row ∷ [])) fu
+        (no_head_boards ds) e in
         table_follows t.name t.cells l others p.0 (boards_rows ds ++ (end_row ∷ [])) p.1 (no_head_boards ds) p.2
     no_words (v ∷ vs) us ds fu [] e = absurd cc
     no_words (v ∷ vs) us ds fu (u ∷ ts) e = absurd cc
 
     go : Behind s (open_table_rows t ++ l ∷ others) → InTable l
-    go (vs, us, ds, fv, fu, fd, e) = no_words vs us ds fu s.tables (ap (λ (x : List BoardText). tables_rows s.tables ++ (boards_rows x ++ (open_table_rows t ++ l ∷ others))) (sym none) ∙ e)
+    go (vs, us, ds, fv, fu, fd, e) =
+        no_words vs us ds fu s.tables
+        (ap (λ (x : List BoardText). tables_rows s.tables ++ (boards_rows x ++ (open_table_rows t ++ l ∷ others)))
+        (sym none) ∙ e)
 
 -- nothing follows a whole setup
-pub nothing_follows : (s r : SetupText) (l : Words) (others : List Words) → SetupFits r → setup_rows r ≡ setup_rows s ++ l ∷ others → ⊥
-nothing_follows s r l others fits e = go (follows s r end_row (l ∷ others) fits (e ∙ append_assoc (open_rows s) (end_row ∷ []) (l ∷ others)))
+pub nothing_follows :
+    (s r : SetupText) (l : Words) (others : List Words) → SetupFits r → setup_rows r ≡ setup_rows s ++ l ∷ others → ⊥
+nothing_follows s r l others fits e =
+    go (follows s r end_row (l ∷ others) fits (e ∙ append_assoc (open_rows s) (end_row ∷ []) (l ∷ others)))
   where
     go : Follows s end_row (l ∷ others) → ⊥
     go (word w f h st sb) = cc
@@ -210,36 +293,80 @@ nothing_follows s r l others fits e = go (follows s r end_row (l ∷ others) fit
 abbrev pub Next : List Words → Words → Type 0
 Next done l = HasNext setup_grammar setup_rows done l
 
-ended_rows : (s : SetupText) (done : List Words) (l : Words) → SetupFits s → open_rows s ≡ done ++ l ∷ [] → HasNext setup_grammar setup_rows done l
-ended_rows s done l fits e = (s, end_row ∷ [], fits, ap (λ (v : List Words). v ++ end_row ∷ []) e ∙ append_assoc done (l ∷ []) (end_row ∷ []))
+ended_rows :
+    (s : SetupText) (done : List Words) (l : Words) → SetupFits s → open_rows s ≡ done ++ l ∷ []
+    → HasNext setup_grammar setup_rows done l
+ended_rows s done l fits e =
+    (s, end_row ∷ [], fits, ap (λ (v : List Words). v ++ end_row ∷ []) e ∙ append_assoc done (l ∷ []) (end_row ∷ []))
 
-pub next_word : (n : ℕ) (ws : List (ℕ × ℕ)) (w : ℕ × ℕ) → SetupFits (text n ws [] []) → WordFits w → Next (open_rows (text n ws [] [])) (word_row w)
-next_word n ws w fits f = ended_rows (text n (ws ++ w ∷ []) [] []) (open_rows (text n ws [] [])) (word_row w) (record { lines = fits.lines; words = each_push WordFits ws w fits.words f; tables = tt; boards = tt }) (rows_word n ws w)
+pub next_word :
+    (n : ℕ) (ws : List (ℕ × ℕ)) (w : ℕ × ℕ) → SetupFits (text n ws [] []) → WordFits w
+    → Next (open_rows (text n ws [] [])) (word_row w)
+next_word n ws w fits f =
+    ended_rows (text n (ws ++ w ∷ []) [] []) (open_rows (text n ws [] [])) (word_row w)
+    (record { lines = fits.lines; words = each_push WordFits ws w fits.words f; tables = tt; boards = tt })
+    (rows_word n ws w)
 
-pub next_head : (n : ℕ) (ws : List (ℕ × ℕ)) (ts : List TableText) (name : List ℕ) → SetupFits (text n ws ts []) → is_name name ≡ true → Next (open_rows (text n ws ts [])) (head_row name)
+pub next_head :
+    (n : ℕ) (ws : List (ℕ × ℕ)) (ts : List TableText) (name : List ℕ) → SetupFits (text n ws ts [])
+    → is_name name ≡ true → Next (open_rows (text n ws ts [])) (head_row name)
 next_head n ws ts name fits f =
     let t = table_text name [] in (
       text n ws (ts ++ t ∷ []) [],
       end_row ∷ end_row ∷ [],
-      record { lines = fits.lines; words = fits.words; tables = each_push TableFits ts t fits.tables (record { name = f; cells = tt }); boards = tt },
-      ap (λ (v : List Words). v ++ end_row ∷ []) (rows_table n ws ts t) ∙ append_assoc (open_rows (text n ws ts [])) (head_row name ∷ end_row ∷ []) (end_row ∷ []),
+      record {
+        lines = fits.lines;
+        words = fits.words;
+        tables = each_push TableFits ts t fits.tables (record { name = f; cells = tt });
+        boards = tt;
+      },
+      ap (λ (v : List Words). v ++ end_row ∷ []) (rows_table n ws ts t)
+          ∙ append_assoc (open_rows (text n ws ts [])) (head_row name ∷ end_row ∷ []) (end_row ∷ []),
     )
 
-pub next_board : (n : ℕ) (ws : List (ℕ × ℕ)) (ts : List TableText) (bs : List BoardText) (b : BoardText) → SetupFits (text n ws ts bs) → BoardFits b → b.script ≡ [] → Next (open_rows (text n ws ts bs)) (board_row b)
+pub next_board :
+    (n : ℕ) (ws : List (ℕ × ℕ)) (ts : List TableText) (bs : List BoardText) (b : BoardText)
+    → SetupFits (text n ws ts bs) → BoardFits b → b.script ≡ [] → Next (open_rows (text n ws ts bs)) (board_row b)
 next_board n ws ts bs b fits f none =
-    ended_rows (text n ws ts (bs ++ b ∷ [])) (open_rows (text n ws ts bs)) (board_row b) (record { lines = fits.lines; words = fits.words; tables = fits.tables; boards = each_push BoardFits bs b fits.boards f })
-    (rows_board n ws ts bs b ∙ ap (λ (x : List Access). open_rows (text n ws ts bs) ++ (board_row b ∷ map access_row x)) none)
+    ended_rows (text n ws ts (bs ++ b ∷ [])) (open_rows (text n ws ts bs)) (board_row b)
+    (record {
+      lines = fits.lines;
+      words = fits.words;
+      tables = fits.tables;
+      boards = each_push BoardFits bs b fits.boards f;
+    })
+    (rows_board n ws ts bs b
+    ∙ ap (λ (x : List Access). open_rows (text n ws ts bs) ++ (board_row b ∷ map access_row x)) none)
 
-pub next_access : (n : ℕ) (ws : List (ℕ × ℕ)) (ts : List TableText) (bs : List BoardText) (b : BoardText) (a : Access) → SetupFits (text n ws ts (bs ++ b ∷ [])) → AccessFits a → Next (open_rows (text n ws ts (bs ++ b ∷ []))) (access_row a)
+pub next_access :
+    (n : ℕ) (ws : List (ℕ × ℕ)) (ts : List TableText) (bs : List BoardText) (b : BoardText) (a : Access)
+    → SetupFits (text n ws ts (bs ++ b ∷ [])) → AccessFits a
+    → Next (open_rows (text n ws ts (bs ++ b ∷ []))) (access_row a)
 next_access n ws ts bs b a fits f =
     let boards = each_before BoardFits bs b fits.boards in
     let last = boards.1 in
     ended_rows (text n ws ts (bs ++ and_access b a ∷ [])) (open_rows (text n ws ts (bs ++ b ∷ []))) (access_row a)
-    (record { lines = fits.lines; words = fits.words; tables = fits.tables; boards = each_push BoardFits bs (and_access b a) boards.0 (record { place = last.place; number = last.number; table = last.table; shape = last.shape; choose = last.choose; script = each_push AccessFits b.script a last.script f }) })
+    (record {
+      lines = fits.lines;
+      words = fits.words;
+      tables = fits.tables;
+      boards = each_push BoardFits bs (and_access b a) boards.0
+          (record {
+            place = last.place;
+            number = last.number;
+            table = last.table;
+            shape = last.shape;
+            choose = last.choose;
+            script = each_push AccessFits b.script a last.script f;
+          });
+    })
     (rows_access n ws ts bs b a)
 
 pub next_end : (s : SetupText) → SetupFits s → Next (open_rows s) end_row
 next_end s fits = (s, [], fits, refl)
 
-pub begins_by : (done : List Words) (l front more : Words) → Next done l → l ≡ front ++ more → BeginsLine setup_grammar setup_rows done front
-begins_by done l front more (s, others, fits, e) same = (s, more, others, fits, e ∙ ap (λ (x : Words). done ++ x ∷ others) same)
+pub begins_by :
+    (done : List Words) (l front more : Words) → Next done l → l ≡ front ++ more
+    → BeginsLine setup_grammar setup_rows done front
+begins_by done l front more (s, others, fits, e) same =
+    (s, more, others, fits, e ∙ ap (λ (x : Words). done ++ x ∷ others) same)

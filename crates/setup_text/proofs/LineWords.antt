@@ -60,11 +60,15 @@ is_word w v e = (bytes_eq-Decides w v).0 e
 
 -- ---- words and numbers
 
-pub number_read : (max : ℕ) (ws : Words) (x : ℕ × Words) → max < 2 ^ 64 → number_at max ws ≡ Ok x → (ws ≡ decimal x.0 ∷ x.1) × (x.0 ≤ max)
+pub number_read :
+    (max : ℕ) (ws : Words) (x : ℕ × Words) → max < 2 ^ 64 → number_at max ws ≡ Ok x
+    → (ws ≡ decimal x.0 ∷ x.1) × (x.0 ≤ max)
 number_read max [] x small e = absurd cc
 number_read max (w ∷ ws) x small e = go (number_within max (number_of w)) refl e
   where
-    go : (r : Result ℕ TextKind) → number_within max (number_of w) ≡ r → counted r ws ≡ Ok x → ((w ∷ ws) ≡ decimal x.0 ∷ x.1) × (x.0 ≤ max)
+    go :
+        (r : Result ℕ TextKind) → number_within max (number_of w) ≡ r → counted r ws ≡ Ok x
+        → ((w ∷ ws) ≡ decimal x.0 ∷ x.1) × (x.0 ≤ max)
     go (Err k) h e = absurd cc
     go (Ok n) h e =
         let same : (n, ws) ≡ x = cc in
@@ -75,7 +79,9 @@ number_read max (w ∷ ws) x small e = go (number_within max (number_of w)) refl
 pub number_reads : (max n : ℕ) (rest : Words) → n ≤ max → max < 2 ^ 64 → number_at max (decimal n ∷ rest) ≡ Ok (n, rest)
 number_reads max n rest fits small = rw (number_within_again max n fits small) refl
 
-pub from_one_read : (max : ℕ) (ws : Words) (x : ℕ × Words) → max < 2 ^ 64 → number_from_one max ws ≡ Ok x → (ws ≡ decimal x.0 ∷ x.1) × (1 ≤ x.0) × (x.0 ≤ max)
+pub from_one_read :
+    (max : ℕ) (ws : Words) (x : ℕ × Words) → max < 2 ^ 64 → number_from_one max ws ≡ Ok x
+    → (ws ≡ decimal x.0 ∷ x.1) × (1 ≤ x.0) × (x.0 ≤ max)
 unfolding number_from_one
 from_one_read max ws x small e =
     let b = binds (number_at max ws) from_one x e in
@@ -92,7 +98,8 @@ not_zero n low = go (eqb n 0) refl
     go true h = absurd (let k = eqb-true n 0 h in omega arith)
     go false h = refl
 
-pub from_one_reads : (max n : ℕ) (rest : Words) → 1 ≤ n → n ≤ max → max < 2 ^ 64 → number_from_one max (decimal n ∷ rest) ≡ Ok (n, rest)
+pub from_one_reads :
+    (max n : ℕ) (rest : Words) → 1 ≤ n → n ≤ max → max < 2 ^ 64 → number_from_one max (decimal n ∷ rest) ≡ Ok (n, rest)
 unfolding number_from_one
 from_one_reads max n rest low fits small = rw (number_reads max n rest fits small, not_zero n low) refl
 
@@ -146,24 +153,31 @@ memory_read ws n e =
 
 pub memory_reads : (n : ℕ) → 1 ≤ n → n ≤ 4096 → memory_line (decimal n ∷ []) ≡ Ok n
 unfolding memory_line
-memory_reads n low high = rw (number_reads 4294967295 n [] (omega arith) (omega arith), not_zero n low, le-ltb 4096 n high) refl
+memory_reads n low high =
+    rw (number_reads 4294967295 n [] (omega arith) (omega arith), not_zero n low, le-ltb 4096 n high) refl
 
-pub address_read : (bound : ℕ) (ws : Words) (x : ℕ × Words) → address_at bound ws ≡ Ok x → (ws ≡ decimal x.0 ∷ x.1) × (x.0 < bound) × (x.0 < 2 ^ 32)
+pub address_read :
+    (bound : ℕ) (ws : Words) (x : ℕ × Words) → address_at bound ws ≡ Ok x
+    → (ws ≡ decimal x.0 ∷ x.1) × (x.0 < bound) × (x.0 < 2 ^ 32)
 unfolding address_at
 address_read bound ws x e =
     let a = binds (number_at 4294967295 ws) (λ n. in_memory bound n.0 >>= λ addr. Ok (addr, n.1)) x e in
     let b = binds (in_memory bound a.value.0) (λ addr. Ok (addr, a.value.1)) x a.then in
     let one = number_read 4294967295 ws a.value (omega arith) a.here in
     let test = passes (ltb a.value.0 bound) a.value.0 b.value Address b.here in
-    let same : (a.value.0, a.value.1) ≡ x = ap (λ (n : ℕ). (n, a.value.1)) test.1 ∙ ok_same (b.value, a.value.1) x b.then in
+    let same : (a.value.0, a.value.1) ≡ x =
+    ap (λ (n : ℕ). (n, a.value.1)) test.1 ∙ ok_same (b.value, a.value.1) x b.then in
     let P : ℕ × Words → Type 0 = λ x. (ws ≡ decimal x.0 ∷ x.1) × (x.0 < bound) × (x.0 < 2 ^ 32) in
     subst P same (one.0, ltb-true a.value.0 bound test.0, omega (arith, one.1))
 
-pub address_reads : (bound n : ℕ) (rest : Words) → n < bound → n < 2 ^ 32 → address_at bound (decimal n ∷ rest) ≡ Ok (n, rest)
+pub address_reads :
+    (bound n : ℕ) (rest : Words) → n < bound → n < 2 ^ 32 → address_at bound (decimal n ∷ rest) ≡ Ok (n, rest)
 unfolding address_at
-address_reads bound n rest low small = rw (number_reads 4294967295 n rest (omega arith) (omega arith), lt-ltb n bound low) refl
+address_reads bound n rest low small =
+    rw (number_reads 4294967295 n rest (omega arith) (omega arith), lt-ltb n bound low) refl
 
-pub address_line_read : (bound : ℕ) (ws : Words) (a : ℕ) → address_line bound ws ≡ Ok a → (ws ≡ decimal a ∷ []) × (a < bound) × (a < 2 ^ 32)
+pub address_line_read :
+    (bound : ℕ) (ws : Words) (a : ℕ) → address_line bound ws ≡ Ok a → (ws ≡ decimal a ∷ []) × (a < bound) × (a < 2 ^ 32)
 unfolding address_line
 address_line_read bound ws n e =
     let a = binds (address_at bound ws) (λ a. line_ends a.1 >>= λ _. Ok a.0) n e in
@@ -178,22 +192,34 @@ pub address_line_reads : (bound n : ℕ) → n < bound → n < 2 ^ 32 → addres
 unfolding address_line
 address_line_reads bound n low small = rw (address_reads bound n [] low small) refl
 
-pub value_line_read : (bound : ℕ) (ws : Words) (a : ℕ × ℕ) → value_line bound ws ≡ Ok a → (ws ≡ decimal a.0 ∷ decimal a.1 ∷ []) × (a.0 < bound) × (a.0 < 2 ^ 32) × (a.1 < 2 ^ 32)
+pub value_line_read :
+    (bound : ℕ) (ws : Words) (a : ℕ × ℕ) → value_line bound ws ≡ Ok a
+    → (ws ≡ decimal a.0 ∷ decimal a.1 ∷ []) × (a.0 < bound) × (a.0 < 2 ^ 32) × (a.1 < 2 ^ 32)
 unfolding value_line
 value_line_read bound ws x e =
-    let a = binds (address_at bound ws) (λ a. number_at 4294967295 a.1 >>= λ v. line_ends v.1 >>= λ _. Ok (a.0, v.0)) x e in
+    let a =
+    binds (address_at bound ws) (λ a. number_at 4294967295 a.1 >>= λ v. line_ends v.1 >>= λ _. Ok (a.0, v.0)) x e in
     let v = binds (number_at 4294967295 a.value.1) (λ v. line_ends v.1 >>= λ _. Ok (a.value.0, v.0)) x a.then in
     let b = binds (line_ends v.value.1) (λ _. Ok (a.value.0, v.value.0)) x v.then in
     let one = address_read bound ws a.value a.here in
     let two = number_read 4294967295 a.value.1 v.value (omega arith) v.here in
     let none = nothing_read v.value.1 b.value b.here in
     let same = ok_same (a.value.0, v.value.0) x b.then in
-    let P : ℕ × ℕ → Type 0 = λ a. (ws ≡ decimal a.0 ∷ decimal a.1 ∷ []) × (a.0 < bound) × (a.0 < 2 ^ 32) × (a.1 < 2 ^ 32) in
-    subst P same (one.0 ∙ ap (λ (u : Words). decimal a.value.0 ∷ u) (two.0 ∙ ap (λ (u : Words). decimal v.value.0 ∷ u) none), one.1, one.2, omega (arith, two.1))
+    let P : ℕ × ℕ → Type 0 =
+    λ a. (ws ≡ decimal a.0 ∷ decimal a.1 ∷ []) × (a.0 < bound) × (a.0 < 2 ^ 32) × (a.1 < 2 ^ 32) in
+    subst P same (
+      one.0
+          ∙ ap (λ (u : Words). decimal a.value.0 ∷ u) (two.0 ∙ ap (λ (u : Words). decimal v.value.0 ∷ u) none),
+      one.1,
+      one.2,
+      omega (arith, two.1),
+    )
 
-pub value_line_reads : (bound n v : ℕ) → n < bound → n < 2 ^ 32 → v < 2 ^ 32 → value_line bound (decimal n ∷ decimal v ∷ []) ≡ Ok (n, v)
+pub value_line_reads :
+    (bound n v : ℕ) → n < bound → n < 2 ^ 32 → v < 2 ^ 32 → value_line bound (decimal n ∷ decimal v ∷ []) ≡ Ok (n, v)
 unfolding value_line
-value_line_reads bound n v low small fits = rw (address_reads bound n (decimal v ∷ []) low small, number_reads 4294967295 v [] (omega arith) (omega arith)) refl
+value_line_reads bound n v low small fits =
+    rw (address_reads bound n (decimal v ∷ []) low small, number_reads 4294967295 v [] (omega arith) (omega arith)) refl
 
 -- ---- accesses
 
@@ -202,24 +228,38 @@ pub record ReadsAccess (bound : ℕ) (event : LocalEvent) (ws : Words) (access :
   pub within : address_of access < bound
   pub fits : AccessFits access
 
-one_read : (bound : ℕ) (ws : Words) (x : ℕ × ℕ) → one_address bound ws ≡ Ok x → (ws ≡ decimal x.0 ∷ []) × (x.0 < bound) × (x.0 < 2 ^ 32)
+one_read :
+    (bound : ℕ) (ws : Words) (x : ℕ × ℕ) → one_address bound ws ≡ Ok x
+    → (ws ≡ decimal x.0 ∷ []) × (x.0 < bound) × (x.0 < 2 ^ 32)
 one_read bound ws x e =
     let a = binds (address_line bound ws) (λ a. Ok (a, 0)) x e in
     let same : a.value ≡ x.0 = ap (λ (p : ℕ × ℕ). p.0) (ok_same (a.value, 0) x a.then) in
     let P : ℕ → Type 0 = λ n. (ws ≡ decimal n ∷ []) × (n < bound) × (n < 2 ^ 32) in
     subst P same (address_line_read bound ws a.value a.here)
 
-pub access_read : (bound : ℕ) (event : LocalEvent) (ws : Words) (access : Access) → access_line bound event ws ≡ Ok access → ReadsAccess bound event ws access
+pub access_read :
+    (bound : ℕ) (event : LocalEvent) (ws : Words) (access : Access) → access_line bound event ws ≡ Ok access
+    → ReadsAccess bound event ws access
 unfolding access_line
 access_read bound event ws access e =
     let a = binds (access_parts bound event ws) (λ a. Ok (access_of event a)) access e in
     subst (ReadsAccess bound event ws) (ok_same (access_of event a.value) access a.then) (go event a.value a.here)
   where
-    go : (event : LocalEvent) (x : ℕ × ℕ) → access_parts bound event ws ≡ Ok x → ReadsAccess bound event ws (access_of event x)
-    go events.Read x h = let one = one_read bound ws x h in record { words = ap (λ (u : Words). codes "read" ∷ u) one.0; within = one.1; fits = one.2 }
-    go events.Write x h = let one = value_line_read bound ws x h in record { words = ap (λ (u : Words). codes "write" ∷ u) one.0; within = one.1; fits = (one.2, one.3) }
-    go events.Pass x h = let one = one_read bound ws x h in record { words = ap (λ (u : Words). codes "pass" ∷ u) one.0; within = one.1; fits = one.2 }
-    go events.Flush x h = let one = one_read bound ws x h in record { words = ap (λ (u : Words). codes "flush" ∷ u) one.0; within = one.1; fits = one.2 }
+    go :
+        (event : LocalEvent) (x : ℕ × ℕ) → access_parts bound event ws ≡ Ok x
+        → ReadsAccess bound event ws (access_of event x)
+    go events.Read x h =
+        let one = one_read bound ws x h in
+        record { words = ap (λ (u : Words). codes "read" ∷ u) one.0; within = one.1; fits = one.2 }
+    go events.Write x h =
+        let one = value_line_read bound ws x h in
+        record { words = ap (λ (u : Words). codes "write" ∷ u) one.0; within = one.1; fits = (one.2, one.3) }
+    go events.Pass x h =
+        let one = one_read bound ws x h in
+        record { words = ap (λ (u : Words). codes "pass" ∷ u) one.0; within = one.1; fits = one.2 }
+    go events.Flush x h =
+        let one = one_read bound ws x h in
+        record { words = ap (λ (u : Words). codes "flush" ∷ u) one.0; within = one.1; fits = one.2 }
 
 -- the word and the rest of an access's line
 pub record WritesAccess (bound : ℕ) (access : Access) : Type 0 where
@@ -228,39 +268,78 @@ pub record WritesAccess (bound : ℕ) (access : Access) : Type 0 where
   pub words : access_row access ≡ local_event_word event ∷ rest
   pub reads : access_line bound event rest ≡ Ok access
 
-pub access_reads : (bound : ℕ) (access : Access) → AccessFits access → address_of access < bound → WritesAccess bound access
+pub access_reads :
+    (bound : ℕ) (access : Access) → AccessFits access → address_of access < bound → WritesAccess bound access
 unfolding access_line
-access_reads bound (accesses.Read a) fits within = record { event = events.Read; rest = decimal a ∷ []; words = refl; reads = rw (address_line_reads bound a within fits) refl }
-access_reads bound (accesses.Write a v) fits within = record { event = events.Write; rest = decimal a ∷ decimal v ∷ []; words = refl; reads = rw (value_line_reads bound a v within fits.0 fits.1) refl }
-access_reads bound (accesses.Pass a) fits within = record { event = events.Pass; rest = decimal a ∷ []; words = refl; reads = rw (address_line_reads bound a within fits) refl }
-access_reads bound (accesses.Flush a) fits within = record { event = events.Flush; rest = decimal a ∷ []; words = refl; reads = rw (address_line_reads bound a within fits) refl }
+access_reads bound (accesses.Read a) fits within =
+    record {
+      event = events.Read;
+      rest = decimal a ∷ [];
+      words = refl;
+      reads = rw (address_line_reads bound a within fits) refl;
+    }
+access_reads bound (accesses.Write a v) fits within =
+    record {
+      event = events.Write;
+      rest = decimal a ∷ decimal v ∷ [];
+      words = refl;
+      reads = rw (value_line_reads bound a v within fits.0 fits.1) refl;
+    }
+access_reads bound (accesses.Pass a) fits within =
+    record {
+      event = events.Pass;
+      rest = decimal a ∷ [];
+      words = refl;
+      reads = rw (address_line_reads bound a within fits) refl;
+    }
+access_reads bound (accesses.Flush a) fits within =
+    record {
+      event = events.Flush;
+      rest = decimal a ∷ [];
+      words = refl;
+      reads = rw (address_line_reads bound a within fits) refl;
+    }
 
 -- ---- the parts of a board line
 
-seed_read : (ws : Words) (x : Choose × Words) → seeded ws ≡ Ok x → (codes "seed" ∷ ws ≡ choose_words x.0 ++ x.1) × ChooseFits x.0
+seed_read :
+    (ws : Words) (x : Choose × Words) → seeded ws ≡ Ok x
+    → (codes "seed" ∷ ws ≡ choose_words x.0 ++ x.1) × ChooseFits x.0
 seed_read ws x e =
     let a = binds (number_at 18446744073709551615 ws) (λ n. Ok (Seed n.0, n.1)) x e in
     let one = number_read 18446744073709551615 ws a.value (omega arith) a.here in
     let P : Choose × Words → Type 0 = λ x. (codes "seed" ∷ ws ≡ choose_words x.0 ++ x.1) × ChooseFits x.0 in
-    subst P (ok_same (Seed a.value.0, a.value.1) x a.then) (ap (λ (u : Words). codes "seed" ∷ u) one.0, omega (arith, one.1))
+    subst P (ok_same (Seed a.value.0, a.value.1) x a.then)
+    (ap (λ (u : Words). codes "seed" ∷ u) one.0, omega (arith, one.1))
 
-pub choose_read : (ws : Words) (x : Choose × Words) → choose_at ws ≡ Ok x → (ws ≡ choose_words x.0 ++ x.1) × ChooseFits x.0
+pub choose_read :
+    (ws : Words) (x : Choose × Words) → choose_at ws ≡ Ok x → (ws ≡ choose_words x.0 ++ x.1) × ChooseFits x.0
 unfolding choose_at
 choose_read [] x e = absurd cc
 choose_read (w ∷ ws) x e = first_word (bytes_eq w (codes "first")) refl e
   where
-    third : (c : Bool) → bytes_eq w (codes "seed") ≡ c → cond c (seeded ws) (Err UnknownWord) ≡ Ok x → ((w ∷ ws) ≡ choose_words x.0 ++ x.1) × ChooseFits x.0
+    third :
+        (c : Bool) → bytes_eq w (codes "seed") ≡ c → cond c (seeded ws) (Err UnknownWord) ≡ Ok x
+        → ((w ∷ ws) ≡ choose_words x.0 ++ x.1) × ChooseFits x.0
     third true h e = let s = seed_read ws x e in (ap (λ (u : List ℕ). u ∷ ws) (is_word w (codes "seed") h) ∙ s.0, s.1)
     third false h e = absurd cc
 
-    second : (b : Bool) → bytes_eq w (codes "round") ≡ b → cond b (Ok (Round, ws)) (cond (bytes_eq w (codes "seed")) (seeded ws) (Err UnknownWord)) ≡ Ok x → ((w ∷ ws) ≡ choose_words x.0 ++ x.1) × ChooseFits x.0
+    second :
+        (b : Bool) → bytes_eq w (codes "round") ≡ b
+        → cond b (Ok (Round, ws)) (cond (bytes_eq w (codes "seed")) (seeded ws) (Err UnknownWord)) ≡ Ok x
+        → ((w ∷ ws) ≡ choose_words x.0 ++ x.1) × ChooseFits x.0
     second true h e =
         let same : (Round, ws) ≡ x = cc in
         let P : Choose × Words → Type 0 = λ x. ((w ∷ ws) ≡ choose_words x.0 ++ x.1) × ChooseFits x.0 in
         subst P same (ap (λ (u : List ℕ). u ∷ ws) (is_word w (codes "round") h), tt)
     second false h e = third (bytes_eq w (codes "seed")) refl e
 
-    first_word : (b : Bool) → bytes_eq w (codes "first") ≡ b → cond b (Ok (First, ws)) (cond (bytes_eq w (codes "round")) (Ok (Round, ws)) (cond (bytes_eq w (codes "seed")) (seeded ws) (Err UnknownWord))) ≡ Ok x → ((w ∷ ws) ≡ choose_words x.0 ++ x.1) × ChooseFits x.0
+    first_word :
+        (b : Bool) → bytes_eq w (codes "first") ≡ b
+        → cond b (Ok (First, ws))
+        (cond (bytes_eq w (codes "round")) (Ok (Round, ws))
+        (cond (bytes_eq w (codes "seed")) (seeded ws) (Err UnknownWord))) ≡ Ok x
+        → ((w ∷ ws) ≡ choose_words x.0 ++ x.1) × ChooseFits x.0
     first_word true h e =
         let same : (First, ws) ≡ x = cc in
         let P : Choose × Words → Type 0 = λ x. ((w ∷ ws) ≡ choose_words x.0 ++ x.1) × ChooseFits x.0 in
@@ -273,41 +352,66 @@ choose_reads First rest fits = refl
 choose_reads Round rest fits = refl
 choose_reads (Seed n) rest fits = rw (number_reads 18446744073709551615 n rest (omega arith) (omega arith)) refl
 
-pub frames_read : (ws : Words) (x : Shape × Words) → frames_at ws ≡ Ok x → (codes "cached" ∷ ws ≡ shape_words x.0 ++ x.1) × ShapeFits x.0 × IsShape false x.0
+pub frames_read :
+    (ws : Words) (x : Shape × Words) → frames_at ws ≡ Ok x
+    → (codes "cached" ∷ ws ≡ shape_words x.0 ++ x.1) × ShapeFits x.0 × IsShape false x.0
 unfolding frames_at
 frames_read ws x e =
     let a = binds (number_from_one 256 ws) (λ sets. number_from_one 256 sets.1 >>= framed sets.0) x e in
     let b = binds (number_from_one 256 a.value.1) (framed a.value.0) x a.then in
     let one = from_one_read 256 ws a.value (omega arith) a.here in
     let two = from_one_read 256 a.value.1 b.value (omega arith) b.here in
-    let test = fails_not (ltb 256 (a.value.0 * b.value.0)) (Cached a.value.0 b.value.0, b.value.1) x (Limit Frames (a.value.0 * b.value.0)) b.then in
-    let P : Shape × Words → Type 0 = λ x. (codes "cached" ∷ ws ≡ shape_words x.0 ++ x.1) × ShapeFits x.0 × IsShape false x.0 in
-    subst P test.1 (ap (λ (u : Words). codes "cached" ∷ u) (one.0 ∙ ap (λ (u : Words). decimal a.value.0 ∷ u) two.0), (one.1, one.2, two.1, two.2), (one.1, two.1, ltb-false 256 (a.value.0 * b.value.0) test.0))
+    let test = fails_not (ltb 256 (a.value.0 * b.value.0)) (Cached a.value.0 b.value.0, b.value.1) x
+    (Limit Frames (a.value.0 * b.value.0)) b.then in
+    let P : Shape × Words → Type 0 =
+    λ x. (codes "cached" ∷ ws ≡ shape_words x.0 ++ x.1) × ShapeFits x.0 × IsShape false x.0 in
+    subst P test.1 (
+      ap (λ (u : Words). codes "cached" ∷ u) (one.0 ∙ ap (λ (u : Words). decimal a.value.0 ∷ u) two.0),
+      (one.1, one.2, two.1, two.2),
+      (one.1, two.1, ltb-false 256 (a.value.0 * b.value.0) test.0),
+    )
 
 weaker_shape : (plain : Bool) (s : Shape) → IsShape false s → IsShape plain s
 weaker_shape plain Plain h = absurd cc
 weaker_shape plain (Cached m n) h = h
 
-pub shape_read : (plain : Bool) (ws : Words) (x : Shape × Words) → shape_at plain ws ≡ Ok x → (ws ≡ shape_words x.0 ++ x.1) × ShapeFits x.0 × IsShape plain x.0
+pub shape_read :
+    (plain : Bool) (ws : Words) (x : Shape × Words) → shape_at plain ws ≡ Ok x
+    → (ws ≡ shape_words x.0 ++ x.1) × ShapeFits x.0 × IsShape plain x.0
 unfolding shape_at
 shape_read plain [] x e = absurd cc
 shape_read plain (w ∷ ws) x e = first_word (bytes_eq w (codes "plain")) refl e
   where
-    second : (b : Bool) → bytes_eq w (codes "cached") ≡ b → cond b (frames_at ws) (Err UnknownWord) ≡ Ok x → ((w ∷ ws) ≡ shape_words x.0 ++ x.1) × ShapeFits x.0 × IsShape plain x.0
-    second true h e = let f = frames_read ws x e in (ap (λ (u : List ℕ). u ∷ ws) (is_word w (codes "cached") h) ∙ f.0, f.1, weaker_shape plain x.0 f.2)
+    second :
+        (b : Bool) → bytes_eq w (codes "cached") ≡ b → cond b (frames_at ws) (Err UnknownWord) ≡ Ok x
+        → ((w ∷ ws) ≡ shape_words x.0 ++ x.1) × ShapeFits x.0 × IsShape plain x.0
+    second true h e =
+        let f = frames_read ws x e in
+        (ap (λ (u : List ℕ). u ∷ ws) (is_word w (codes "cached") h) ∙ f.0, f.1, weaker_shape plain x.0 f.2)
     second false h e = absurd cc
 
-    first_word : (b : Bool) → bytes_eq w (codes "plain") ≡ b → cond b (cond plain (Ok (Plain, ws)) (Err NoFrames)) (cond (bytes_eq w (codes "cached")) (frames_at ws) (Err UnknownWord)) ≡ Ok x → ((w ∷ ws) ≡ shape_words x.0 ++ x.1) × ShapeFits x.0 × IsShape plain x.0
+    first_word :
+        (b : Bool) → bytes_eq w (codes "plain") ≡ b
+        → cond b (cond plain (Ok (Plain, ws)) (Err NoFrames))
+        (cond (bytes_eq w (codes "cached")) (frames_at ws) (Err UnknownWord)) ≡ Ok x
+        → ((w ∷ ws) ≡ shape_words x.0 ++ x.1) × ShapeFits x.0 × IsShape plain x.0
     first_word true h e =
         let test = passes plain (Plain, ws) x NoFrames e in
         let P : Shape × Words → Type 0 = λ x. ((w ∷ ws) ≡ shape_words x.0 ++ x.1) × ShapeFits x.0 × IsShape plain x.0 in
         subst P test.1 (ap (λ (u : List ℕ). u ∷ ws) (is_word w (codes "plain") h), tt, test.0)
     first_word false h e = second (bytes_eq w (codes "cached")) refl e
 
-pub shape_reads : (plain : Bool) (s : Shape) (rest : Words) → ShapeFits s → IsShape plain s → shape_at plain (shape_words s ++ rest) ≡ Ok (s, rest)
+pub shape_reads :
+    (plain : Bool) (s : Shape) (rest : Words) → ShapeFits s → IsShape plain s
+    → shape_at plain (shape_words s ++ rest) ≡ Ok (s, rest)
 unfolding shape_at frames_at
 shape_reads plain Plain rest fits is = rw is refl
-shape_reads plain (Cached m n) rest fits is = rw (from_one_reads 256 m (decimal n ∷ rest) fits.0 fits.1 (omega arith), from_one_reads 256 n rest fits.2 fits.3 (omega arith), le-ltb 256 (m * n) is.2) refl
+shape_reads plain (Cached m n) rest fits is =
+    rw (
+      from_one_reads 256 m (decimal n ∷ rest) fits.0 fits.1 (omega arith),
+      from_one_reads 256 n rest fits.2 fits.3 (omega arith),
+      le-ltb 256 (m * n) is.2,
+    ) refl
 
 -- the place, the number and the name of a board
 pub record ReadsFront (boards : List BoardSpec) (ws : Words) (x : ℕ × Words) : Type 0 where
@@ -316,12 +420,16 @@ pub record ReadsFront (boards : List BoardSpec) (ws : Words) (x : ℕ × Words) 
   pub high : x.0 ≤ 255
   pub new : has_number boards x.0 ≡ false
 
-pub front_read : (boards : List BoardSpec) (ws : Words) (x : ℕ × Words) → board_front boards ws ≡ Ok x → ReadsFront boards ws x
+pub front_read :
+    (boards : List BoardSpec) (ws : Words) (x : ℕ × Words) → board_front boards ws ≡ Ok x → ReadsFront boards ws x
 unfolding board_front place_at board_number_at
 front_read boards ws x e =
-    let a = binds (number_at 4294967295 ws >>= next_place (length boards)) (λ number. this_word (codes "number") number >>= λ after. number_from_one 255 after >>= new_number boards) x e in
+    let a = binds (number_at 4294967295 ws >>= next_place (length boards))
+    (λ number. this_word (codes "number") number >>= λ after. number_from_one 255 after >>= new_number boards) x e
+    in
     let p = binds (number_at 4294967295 ws) (next_place (length boards)) a.value a.here in
-    let b = binds (this_word (codes "number") a.value) (λ after. number_from_one 255 after >>= new_number boards) x a.then in
+    let b = binds (this_word (codes "number") a.value) (λ after. number_from_one 255 after >>= new_number boards) x
+    a.then in
     let n = binds (number_from_one 255 b.value) (new_number boards) x b.then in
     let place = number_read 4294967295 ws p.value (omega arith) p.here in
     let next = passes (eqb p.value.0 (length boards + 1)) p.value.1 a.value Number p.then in
@@ -330,16 +438,30 @@ front_read boards ws x e =
     let number = from_one_read 255 b.value n.value (omega arith) n.here in
     let test = fails_not (has_number boards n.value.0) n.value x TwiceNumber n.then in
     subst (ReadsFront boards ws) test.1 (record {
-      words = place.0 ∙ (ap (λ (m : ℕ). decimal m ∷ p.value.1) is ∙ ap (λ (u : Words). decimal (length boards + 1) ∷ u) (next.1 ∙ (word ∙ ap (λ (u : Words). codes "number" ∷ u) number.0)));
+      words =
+          place.0
+          ∙ (ap (λ (m : ℕ). decimal m ∷ p.value.1) is
+          ∙ ap (λ (u : Words). decimal (length boards + 1) ∷ u)
+          (next.1 ∙ (word ∙ ap (λ (u : Words). codes "number" ∷ u) number.0)));
       low = number.1;
       high = number.2;
       new = test.0;
     })
 
-pub front_reads : (boards : List BoardSpec) (number : ℕ) (rest : Words) → length boards < 16 → 1 ≤ number → number ≤ 255 → has_number boards number ≡ false → board_front boards (decimal (length boards + 1) ∷ codes "number" ∷ decimal number ∷ rest) ≡ Ok (number, rest)
+pub front_reads :
+    (boards : List BoardSpec) (number : ℕ) (rest : Words) → length boards < 16 → 1 ≤ number → number ≤ 255
+    → has_number boards number ≡ false
+    → board_front boards (decimal (length boards + 1) ∷ codes "number" ∷ decimal number ∷ rest) ≡ Ok (number, rest)
 unfolding board_front place_at board_number_at
 front_reads boards number rest few low high new =
-    rw (number_reads 4294967295 (length boards + 1) (codes "number" ∷ decimal number ∷ rest) (omega arith) (omega arith), same (length boards + 1), from_one_reads 255 number rest low high (omega arith), new) refl
+    rw (
+      number_reads 4294967295 (length boards + 1) (codes "number" ∷ decimal number ∷ rest) (omega arith)
+          (omega arith),
+      same (length boards + 1),
+      from_one_reads 255 number rest low high (omega arith),
+      new,
+    )
+    refl
   where
     same : (n : ℕ) → eqb n n ≡ true
     same n = go (eqb n n) refl
@@ -354,41 +476,57 @@ pub record ReadsTable (tables : List Table) (ws : Words) (x : ℕ × Bool × Wor
   pub named_ : is_name name ≡ true
   pub found : found_name (map named tables) name ≡ Some (x.0, x.1)
 
-pub table_read : (tables : List Table) (ws : Words) (x : ℕ × Bool × Words) → board_table tables ws ≡ Ok x → ReadsTable tables ws x
+pub table_read :
+    (tables : List Table) (ws : Words) (x : ℕ × Bool × Words) → board_table tables ws ≡ Ok x → ReadsTable tables ws x
 unfolding board_table table_name_at
 table_read tables ws x e =
-    let a = binds (this_word (codes "table") ws) (λ after. name_at after >>= λ n. known_name (found_name (map named tables) n.0) n.1) x e in
+    let a = binds (this_word (codes "table") ws)
+    (λ after. name_at after >>= λ n. known_name (found_name (map named tables) n.0) n.1) x e in
     let b = binds (name_at a.value) (λ n. known_name (found_name (map named tables) n.0) n.1) x a.then in
     let word = word_read (codes "table") ws a.value a.here in
     let name = name_read a.value b.value b.here in
-    go b.value (word ∙ ap (λ (u : Words). codes "table" ∷ u) name.0) name.1 (found_name (map named tables) b.value.0) refl b.then
+    go b.value (word ∙ ap (λ (u : Words). codes "table" ∷ u) name.0) name.1 (found_name (map named tables) b.value.0)
+    refl b.then
   where
-    go : (n : List ℕ × Words) → ws ≡ codes "table" ∷ n.0 ∷ n.1 → is_name n.0 ≡ true → (o : Option (ℕ × Bool)) → found_name (map named tables) n.0 ≡ o → known_name o n.1 ≡ Ok x → ReadsTable tables ws x
+    go :
+        (n : List ℕ × Words) → ws ≡ codes "table" ∷ n.0 ∷ n.1 → is_name n.0 ≡ true → (o : Option (ℕ × Bool))
+        → found_name (map named tables) n.0 ≡ o → known_name o n.1 ≡ Ok x → ReadsTable tables ws x
     go n words is None h e = absurd cc
     go n words is (Some p) h e =
         let same : (p.0, p.1, n.1) ≡ x = cc in
         subst (ReadsTable tables ws) same (record { name = n.0; words = words; named_ = is; found = h })
 
-pub table_reads : (tables : List Table) (name : List ℕ) (p : ℕ × Bool) (rest : Words) → is_name name ≡ true → found_name (map named tables) name ≡ Some p → board_table tables (codes "table" ∷ name ∷ rest) ≡ Ok (p.0, p.1, rest)
+pub table_reads :
+    (tables : List Table) (name : List ℕ) (p : ℕ × Bool) (rest : Words) → is_name name ≡ true
+    → found_name (map named tables) name ≡ Some p
+    → board_table tables (codes "table" ∷ name ∷ rest) ≡ Ok (p.0, p.1, rest)
 unfolding board_table table_name_at
 table_reads tables name p rest is found = rw (name_reads name rest is, found) refl
 
 pub back_read : (ws : Words) (c : Choose) → board_back ws ≡ Ok c → (ws ≡ codes "choose" ∷ choose_words c) × ChooseFits c
 unfolding board_back
 back_read ws c e =
-    let a = binds (this_word (codes "choose") ws) (λ after. choose_at after >>= λ c. line_ends c.1 >>= λ _. Ok c.0) c e in
+    let a =
+    binds (this_word (codes "choose") ws) (λ after. choose_at after >>= λ c. line_ends c.1 >>= λ _. Ok c.0) c e in
     let b = binds (choose_at a.value) (λ c. line_ends c.1 >>= λ _. Ok c.0) c a.then in
     let d = binds (line_ends b.value.1) (λ _. Ok b.value.0) c b.then in
     let word = word_read (codes "choose") ws a.value a.here in
     let choose = choose_read a.value b.value b.here in
     let none = nothing_read b.value.1 d.value d.here in
     let P : Choose → Type 0 = λ c. (ws ≡ codes "choose" ∷ choose_words c) × ChooseFits c in
-    subst P (ok_same b.value.0 c d.then) (word ∙ ap (λ (u : Words). codes "choose" ∷ u) (choose.0 ∙ (ap (λ (u : Words). choose_words b.value.0 ++ u) none ∙ append-nil (choose_words b.value.0))), choose.1)
+    subst P (ok_same b.value.0 c d.then) (
+      word
+          ∙ ap (λ (u : Words). codes "choose" ∷ u)
+          (choose.0
+          ∙ (ap (λ (u : Words). choose_words b.value.0 ++ u) none ∙ append-nil (choose_words b.value.0))),
+      choose.1,
+    )
 
 pub back_reads : (c : Choose) → ChooseFits c → board_back (codes "choose" ∷ choose_words c) ≡ Ok c
 unfolding board_back
 back_reads c fits =
-    let one : choose_at (choose_words c) ≡ Ok (c, []) = ap choose_at (sym (append-nil (choose_words c))) ∙ choose_reads c [] fits in
+    let one : choose_at (choose_words c) ≡ Ok (c, []) =
+    ap choose_at (sym (append-nil (choose_words c))) ∙ choose_reads c [] fits in
     rw one refl
 
 -- ---- the name of a head line
@@ -399,27 +537,40 @@ pub record ReadsName (tables : List Table) (ws : Words) (name : List ℕ) : Type
   pub named_ : is_name name ≡ true
   pub new : found_name (map named tables) name ≡ None
 
-pub head_read : (tables : List Table) (ws : Words) (name : List ℕ) → head_line tables ws ≡ Ok name → ReadsName tables ws name
+pub head_read :
+    (tables : List Table) (ws : Words) (name : List ℕ) → head_line tables ws ≡ Ok name → ReadsName tables ws name
 unfolding head_name
 head_read tables ws name e =
-    let a = binds (cond (ltb (length tables) 16) (name_at ws >>= new_name tables) (Err (Limit Tables 17))) (λ n. line_ends n.1 >>= λ _. Ok n.0) name e in
+    let a = binds (cond (ltb (length tables) 16) (name_at ws >>= new_name tables) (Err (Limit Tables 17)))
+    (λ n. line_ends n.1 >>= λ _. Ok n.0) name e in
     let b = binds (line_ends a.value.1) (λ _. Ok a.value.0) name a.then in
-    subst (ReadsName tables ws) (ok_same a.value.0 name b.then) (room (ltb (length tables) 16) refl a.value a.here (nothing_read a.value.1 b.value b.here))
+    subst (ReadsName tables ws) (ok_same a.value.0 name b.then)
+    (room (ltb (length tables) 16) refl a.value a.here (nothing_read a.value.1 b.value b.here))
   where
-    fresh : (n x : List ℕ × Words) → ws ≡ n.0 ∷ n.1 → length tables < 16 → is_name n.0 ≡ true → x.1 ≡ [] → (o : Option (ℕ × Bool)) → found_name (map named tables) n.0 ≡ o → new_name tables n ≡ Ok x → ReadsName tables ws x.0
+    fresh :
+        (n x : List ℕ × Words) → ws ≡ n.0 ∷ n.1 → length tables < 16 → is_name n.0 ≡ true → x.1 ≡ []
+        → (o : Option (ℕ × Bool)) → found_name (map named tables) n.0 ≡ o → new_name tables n ≡ Ok x
+        → ReadsName tables ws x.0
     fresh n x words few is none None h e =
         let same : n ≡ x = (let both : ◌≡◌ {A = Result (List ℕ × Words) SetupKind} (Ok n) (Ok x) = rw h at e in cc) in
         let P : List ℕ × Words → Type 0 = λ x. x.1 ≡ [] → ReadsName tables ws x.0 in
-        subst P same (λ k. record { words = words ∙ ap (λ (u : Words). n.0 ∷ u) k; few = few; named_ = is; new = h }) none
-    fresh n x words few is none (Some p) h e = (let both : ◌≡◌ {A = Result (List ℕ × Words) SetupKind} (Err TwiceName) (Ok x) = rw h at e in absurd cc)
+        subst P same (λ k. record { words = words ∙ ap (λ (u : Words). n.0 ∷ u) k; few = few; named_ = is; new = h })
+        none
+    fresh n x words few is none (Some p) h e =
+        (let both : ◌≡◌ {A = Result (List ℕ × Words) SetupKind} (Err TwiceName) (Ok x) = rw h at e in absurd cc)
 
-    room : (b : Bool) → ltb (length tables) 16 ≡ b → (x : List ℕ × Words) → cond b (name_at ws >>= new_name tables) (Err (Limit Tables 17)) ≡ Ok x → x.1 ≡ [] → ReadsName tables ws x.0
+    room :
+        (b : Bool) → ltb (length tables) 16 ≡ b → (x : List ℕ × Words)
+        → cond b (name_at ws >>= new_name tables) (Err (Limit Tables 17)) ≡ Ok x → x.1 ≡ [] → ReadsName tables ws x.0
     room false h x e none = absurd cc
     room true h x e none =
         let a = binds (name_at ws) (new_name tables) x e in
         let n = name_read ws a.value a.here in
-        fresh a.value x n.0 (ltb-true (length tables) 16 h) n.1 none (found_name (map named tables) a.value.0) refl a.then
+        fresh a.value x n.0 (ltb-true (length tables) 16 h) n.1 none (found_name (map named tables) a.value.0) refl
+        a.then
 
-pub head_reads : (tables : List Table) (name : List ℕ) → length tables < 16 → is_name name ≡ true → found_name (map named tables) name ≡ None → head_line tables (name ∷ []) ≡ Ok name
+pub head_reads :
+    (tables : List Table) (name : List ℕ) → length tables < 16 → is_name name ≡ true
+    → found_name (map named tables) name ≡ None → head_line tables (name ∷ []) ≡ Ok name
 unfolding head_name
 head_reads tables name few is new = rw (lt-ltb (length tables) 16 few, name_reads name [] is, new) refl

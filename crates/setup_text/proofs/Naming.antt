@@ -35,11 +35,20 @@ further_flag : (i j : ℕ) (b : Option Bool) → i + 1 ≡ j → option_map furt
 further_flag i j None e = refl
 further_flag i j (Some v) e = ap (λ (n : ℕ). Some (n, v)) e
 
-found_at : (w : List ℕ) (es : List Entry) → found_name (seen es) w ≡ flag_at (position_or_len (is_key w) (keys es)) (slice_get (flags es) (position_or_len (is_key w) (keys es)))
+found_at :
+    (w : List ℕ) (es : List Entry)
+    → found_name (seen es) w
+    ≡ flag_at (position_or_len (is_key w) (keys es)) (slice_get (flags es) (position_or_len (is_key w) (keys es)))
 found_at w [] = refl
 found_at w (e ∷ es) = go (found_at w es) (is_key w e.0) refl
   where
-    go : found_name (seen es) w ≡ flag_at (position_or_len (is_key w) (keys es)) (slice_get (flags es) (position_or_len (is_key w) (keys es))) → (b : Bool) → is_key w e.0 ≡ b → found_name (seen (e ∷ es)) w ≡ flag_at (position_or_len (is_key w) (keys (e ∷ es))) (slice_get (flags (e ∷ es)) (position_or_len (is_key w) (keys (e ∷ es))))
+    go :
+        found_name (seen es) w
+        ≡ flag_at (position_or_len (is_key w) (keys es))
+        (slice_get (flags es) (position_or_len (is_key w) (keys es))) → (b : Bool) → is_key w e.0 ≡ b
+        → found_name (seen (e ∷ es)) w
+        ≡ flag_at (position_or_len (is_key w) (keys (e ∷ es)))
+        (slice_get (flags (e ∷ es)) (position_or_len (is_key w) (keys (e ∷ es))))
     go rest true h = rw h refl
     go rest false h =
         let n = position_or_len (is_key w) (keys es) in
@@ -65,11 +74,23 @@ none_past [] i h = refl
 none_past (x ∷ xs) zero h = absurd (omega arith)
 none_past (x ∷ xs) (suc i) h = none_past xs i (omega arith)
 
-pub found_none : (w : List ℕ) (es : List Entry) → ◌≡◌ {A = Option ℕ} None (position (is_key w) (keys es)) → found_name (seen es) w ≡ None
+pub found_none :
+    (w : List ℕ) (es : List Entry) → ◌≡◌ {A = Option ℕ} None (position (is_key w) (keys es))
+    → found_name (seen es) w ≡ None
 found_none w es e =
-    found_at w es ∙ ap (flag_at (position_or_len (is_key w) (keys es))) (none_past (flags es) (position_or_len (is_key w) (keys es)) (omega (arith, position_past (is_key w) (keys es) (sym e), length-map es (λ (e : Entry). e.0), length-map es (λ (e : Entry). e.1))))
+    found_at w es
+    ∙ ap (flag_at (position_or_len (is_key w) (keys es)))
+    (none_past (flags es) (position_or_len (is_key w) (keys es))
+    (omega (
+      arith,
+      position_past (is_key w) (keys es) (sym e),
+      length-map es (λ (e : Entry). e.0),
+      length-map es (λ (e : Entry). e.1),
+    )))
 
-pub found_some : (w : List ℕ) (es : List Entry) (i : ℕ) (b : Bool) → ◌≡◌ {A = Option ℕ} (Some i) (position (is_key w) (keys es)) → slice_get (flags es) i ≡ Some b → found_name (seen es) w ≡ Some (i, b)
+pub found_some :
+    (w : List ℕ) (es : List Entry) (i : ℕ) (b : Bool) → ◌≡◌ {A = Option ℕ} (Some i) (position (is_key w) (keys es))
+    → slice_get (flags es) i ≡ Some b → found_name (seen es) w ≡ Some (i, b)
 found_some w es i b e h =
     let at : i ≡ position_or_len (is_key w) (keys es) = position_is (is_key w) (keys es) i (sym e) in
     found_at w es ∙ (ap (λ (n : ℕ). flag_at n (slice_get (flags es) n)) (sym at) ∙ ap (flag_at i) h)
@@ -78,19 +99,29 @@ abbrev same_key : Vec ℕ → Vec ℕ → Bool
 same_key a b = bytes_eq a.items b.items
 
 -- a name that was not found goes last
-inserted : (k : Vec ℕ) (v : Bool) (es : List Entry) → found_name (seen es) k.items ≡ None → insert_entry same_key es k v ≡ es ++ (k, v) ∷ []
+inserted :
+    (k : Vec ℕ) (v : Bool) (es : List Entry) → found_name (seen es) k.items ≡ None
+    → insert_entry same_key es k v ≡ es ++ (k, v) ∷ []
 inserted k v [] e = refl
 inserted k v (x ∷ es) e = go (inserted k v es) (bytes_eq k.items x.0.items) refl (found_name (seen es) k.items) refl
   where
-    go : (found_name (seen es) k.items ≡ None → insert_entry same_key es k v ≡ es ++ (k, v) ∷ []) → (b : Bool) → bytes_eq k.items x.0.items ≡ b → (r : Option (ℕ × Bool)) → found_name (seen es) k.items ≡ r → insert_entry same_key (x ∷ es) k v ≡ x ∷ (es ++ (k, v) ∷ [])
+    go :
+        (found_name (seen es) k.items ≡ None → insert_entry same_key es k v ≡ es ++ (k, v) ∷ []) → (b : Bool)
+        → bytes_eq k.items x.0.items ≡ b → (r : Option (ℕ × Bool)) → found_name (seen es) k.items ≡ r
+        → insert_entry same_key (x ∷ es) k v ≡ x ∷ (es ++ (k, v) ∷ [])
     go rest true h r m = let both : ◌≡◌ {A = Option (ℕ × Bool)} (Some (0, x.1)) None = rw h at e in absurd cc
-    go rest false h (Some q) m = let both : ◌≡◌ {A = Option (ℕ × Bool)} (Some (further q)) None = rw (h, m) at e in absurd cc
+    go rest false h (Some q) m =
+        let both : ◌≡◌ {A = Option (ℕ × Bool)} (Some (further q)) None = rw (h, m) at e in absurd cc
     go rest false h None m = rw h (ap (λ (ys : List Entry). x ∷ ys) (rest m))
 
-pub pushed : (k : Vec ℕ) (v : Bool) (w : List ℕ) (es fs : List Entry) → k.items ≡ w → fs ≡ insert_entry same_key es k v → found_name (seen es) w ≡ None → seen fs ≡ seen es ++ (w, v) ∷ []
+pub pushed :
+    (k : Vec ℕ) (v : Bool) (w : List ℕ) (es fs : List Entry) → k.items ≡ w → fs ≡ insert_entry same_key es k v
+    → found_name (seen es) w ≡ None → seen fs ≡ seen es ++ (w, v) ∷ []
 pushed k v w es fs same made none =
     let new : found_name (seen es) k.items ≡ None = ap (found_name (seen es)) same ∙ none in
-    ap seen (made ∙ inserted k v es new) ∙ (map-append (λ (e : Entry). (e.0.items, e.1)) es ((k, v) ∷ []) ∙ ap (λ (n : List ℕ). seen es ++ (n, v) ∷ []) same)
+    ap seen (made ∙ inserted k v es new)
+    ∙ (map-append (λ (e : Entry). (e.0.items, e.1)) es ((k, v) ∷ [])
+    ∙ ap (λ (n : List ℕ). seen es ++ (n, v) ∷ []) same)
 
 -- ---- names of tables
 
@@ -103,10 +134,14 @@ found_known w (t ∷ ts) p e = go (found_known w ts) (bytes_eq w t.name) refl (f
     further_known q known h =
         let place : suc q.0 ≡ p.0 = let first : q.0 + 1 ≡ p.0 = ap (λ (x : ℕ × Bool). x.0) h in omega arith in
         let flag : q.1 ≡ p.1 = ap (λ (x : ℕ × Bool). x.1) h in
-        let least : q.0 < length ts = known.0 in
-        (rw (← place) (omega arith), sym flag ∙ (known.1 ∙ ap (λ (n : ℕ). stays_invalid (get_or (t ∷ ts) n (empty_table []))) place))
+        let least : q.0 < length ts = known.0 in (
+          rw (← place) (omega arith),
+          sym flag ∙ (known.1 ∙ ap (λ (n : ℕ). stays_invalid (get_or (t ∷ ts) n (empty_table []))) place),
+        )
 
-    go : ((q : ℕ × Bool) → found_name (map named ts) w ≡ Some q → IsKnown ts q) → (b : Bool) → bytes_eq w t.name ≡ b → (r : Option (ℕ × Bool)) → found_name (map named ts) w ≡ r → IsKnown (t ∷ ts) p
+    go :
+        ((q : ℕ × Bool) → found_name (map named ts) w ≡ Some q → IsKnown ts q) → (b : Bool) → bytes_eq w t.name ≡ b
+        → (r : Option (ℕ × Bool)) → found_name (map named ts) w ≡ r → IsKnown (t ∷ ts) p
     go rest true h r k =
         let both : ◌≡◌ {A = Option (ℕ × Bool)} (Some (0, stays_invalid t)) (Some p) = rw h at e in
         let same : (0, stays_invalid t) ≡ p = cc in
@@ -118,12 +153,21 @@ found_known w (t ∷ ts) p e = go (found_known w ts) (bytes_eq w t.name) refl (f
         further_known q (rest q k) cc
 
 -- a name that was not found is no table's
-pub found_new : (w : List ℕ) (ts : List Table) → found_name (map named ts) w ≡ None → (i : ℕ) (d : Table) → i < length ts → (get_or ts i d).name ≢ w
+pub found_new :
+    (w : List ℕ) (ts : List Table) → found_name (map named ts) w ≡ None → (i : ℕ) (d : Table) → i < length ts
+    → (get_or ts i d).name ≢ w
 found_new w [] e i d h = absurd (omega arith)
-found_new w (t ∷ ts) e i d h = go (λ m j k. found_new w ts m j d k) (bytes_eq w t.name) refl (found_name (map named ts) w) refl i h
+found_new w (t ∷ ts) e i d h =
+    go (λ m j k. found_new w ts m j d k) (bytes_eq w t.name) refl (found_name (map named ts) w) refl i h
   where
-    go : (found_name (map named ts) w ≡ None → (j : ℕ) → j < length ts → (get_or ts j d).name ≢ w) → (b : Bool) → bytes_eq w t.name ≡ b → (r : Option (ℕ × Bool)) → found_name (map named ts) w ≡ r → (i : ℕ) → i < length (t ∷ ts) → (get_or (t ∷ ts) i d).name ≢ w
-    go rest true k r m i h = let both : ◌≡◌ {A = Option (ℕ × Bool)} (Some (0, stays_invalid t)) None = rw k at e in absurd cc
-    go rest false k (Some q) m i h = let both : ◌≡◌ {A = Option (ℕ × Bool)} (Some (further q)) None = rw (k, m) at e in absurd cc
-    go rest false k None m zero h = λ same. let both : true ≡ false = sym ((bytes_eq-Decides w t.name).1 (sym same)) ∙ k in cc
+    go :
+        (found_name (map named ts) w ≡ None → (j : ℕ) → j < length ts → (get_or ts j d).name ≢ w) → (b : Bool)
+        → bytes_eq w t.name ≡ b → (r : Option (ℕ × Bool)) → found_name (map named ts) w ≡ r → (i : ℕ)
+        → i < length (t ∷ ts) → (get_or (t ∷ ts) i d).name ≢ w
+    go rest true k r m i h =
+        let both : ◌≡◌ {A = Option (ℕ × Bool)} (Some (0, stays_invalid t)) None = rw k at e in absurd cc
+    go rest false k (Some q) m i h =
+        let both : ◌≡◌ {A = Option (ℕ × Bool)} (Some (further q)) None = rw (k, m) at e in absurd cc
+    go rest false k None m zero h =
+        λ same. let both : true ≡ false = sym ((bytes_eq-Decides w t.name).1 (sym same)) ∙ k in cc
     go rest false k None m (suc i) h = rest m i (omega arith)

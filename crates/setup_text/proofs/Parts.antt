@@ -8,8 +8,8 @@ use Rattle.bus_signals.specs.declared.Access.{Access}
 use Rattle.bus_signals.specs.Accesses.{address_of}
 use Rattle.class_relation.specs.Tables.{Table, empty_table}
 use Rattle.table_check.specs.declared.boards.BoardSpec.{BoardSpec}
-use Rattle.table_check.specs.Setup.{Setup, WellFormed, line_count, access_count}
-use Rattle.table_check.specs.Setup as checked
+use Rattle.setup.specs.Setup.{Setup, WellFormed, line_count, access_count}
+use Rattle.setup.specs.Setup as checked
 use Rattle.table_text.specs.Spelling.{CellLine, entered, all_entered, table_of}
 use Rattle.setup_text.specs.Spelling.{TableText, BoardText, SetupText, memory_row, word_row, board_row, access_row, table_rows, board_rows, tables_rows, open_rows, AccessFits, WordFits, TableFits, BoardFits}
 use Rattle.setup_text.specs.Values.{words_set, memory_of, tables_of, board_of, setup_of}
@@ -33,28 +33,50 @@ and_access b a = record b { script = b.script ++ a ∷ [] }
 
 pub flat_push : {X Y : Type 0} (f : X → List Y) (xs : List X) (x : X) → flat_map f (xs ++ x ∷ []) ≡ flat_map f xs ++ f x
 flat_push f [] x = append-nil (f x)
-flat_push {X} {Y} f (y ∷ xs) x = ap (λ (v : List Y). f y ++ v) (flat_push f xs x) ∙ sym (append_assoc (f y) (flat_map f xs) (f x))
+flat_push {X} {Y} f (y ∷ xs) x =
+    ap (λ (v : List Y). f y ++ v) (flat_push f xs x) ∙ sym (append_assoc (f y) (flat_map f xs) (f x))
 
-pub rows_word : (n : ℕ) (ws : List (ℕ × ℕ)) (w : ℕ × ℕ) → open_rows (text n (ws ++ w ∷ []) [] []) ≡ open_rows (text n ws [] []) ++ word_row w ∷ []
+pub rows_word :
+    (n : ℕ) (ws : List (ℕ × ℕ)) (w : ℕ × ℕ)
+    → open_rows (text n (ws ++ w ∷ []) [] []) ≡ open_rows (text n ws [] []) ++ word_row w ∷ []
 rows_word n ws w =
-    ap (λ (v : List Words). memory_row n ∷ v) (append-nil (map word_row (ws ++ w ∷ [])) ∙ (map-append word_row ws (w ∷ []) ∙ ap (λ (v : List Words). v ++ word_row w ∷ []) (sym (append-nil (map word_row ws)))))
+    ap (λ (v : List Words). memory_row n ∷ v)
+    (append-nil (map word_row (ws ++ w ∷ []))
+    ∙ (map-append word_row ws (w ∷ [])
+    ∙ ap (λ (v : List Words). v ++ word_row w ∷ []) (sym (append-nil (map word_row ws)))))
 
-pub rows_table : (n : ℕ) (ws : List (ℕ × ℕ)) (ts : List TableText) (t : TableText) → open_rows (text n ws (ts ++ t ∷ []) []) ≡ open_rows (text n ws ts []) ++ table_rows t
+pub rows_table :
+    (n : ℕ) (ws : List (ℕ × ℕ)) (ts : List TableText) (t : TableText)
+    → open_rows (text n ws (ts ++ t ∷ []) []) ≡ open_rows (text n ws ts []) ++ table_rows t
 rows_table n ws ts t =
-    let one : tables_rows (ts ++ t ∷ []) ++ [] ≡ (tables_rows ts ++ []) ++ table_rows t = append-nil (tables_rows (ts ++ t ∷ [])) ∙ (flat_push table_rows ts t ∙ ap (λ (v : List Words). v ++ table_rows t) (sym (append-nil (tables_rows ts)))) in
-    ap (λ (v : List Words). memory_row n ∷ v) (ap (λ (v : List Words). map word_row ws ++ v) one ∙ sym (append_assoc (map word_row ws) (tables_rows ts ++ []) (table_rows t)))
+    let one : tables_rows (ts ++ t ∷ []) ++ [] ≡ (tables_rows ts ++ []) ++ table_rows t =
+    append-nil (tables_rows (ts ++ t ∷ []))
+    ∙ (flat_push table_rows ts t ∙ ap (λ (v : List Words). v ++ table_rows t) (sym (append-nil (tables_rows ts))))
+    in
+    ap (λ (v : List Words). memory_row n ∷ v)
+    (ap (λ (v : List Words). map word_row ws ++ v) one
+    ∙ sym (append_assoc (map word_row ws) (tables_rows ts ++ []) (table_rows t)))
 
-pub rows_board : (n : ℕ) (ws : List (ℕ × ℕ)) (ts : List TableText) (bs : List BoardText) (b : BoardText) → open_rows (text n ws ts (bs ++ b ∷ [])) ≡ open_rows (text n ws ts bs) ++ board_rows b
+pub rows_board :
+    (n : ℕ) (ws : List (ℕ × ℕ)) (ts : List TableText) (bs : List BoardText) (b : BoardText)
+    → open_rows (text n ws ts (bs ++ b ∷ [])) ≡ open_rows (text n ws ts bs) ++ board_rows b
 rows_board n ws ts bs b =
     let one : flat_map board_rows (bs ++ b ∷ []) ≡ flat_map board_rows bs ++ board_rows b = flat_push board_rows bs b in
     ap (λ (v : List Words). memory_row n ∷ v) (ap (λ (v : List Words). map word_row ws ++ (tables_rows ts ++ v)) one
-    ∙ (ap (λ (v : List Words). map word_row ws ++ v) (sym (append_assoc (tables_rows ts) (flat_map board_rows bs) (board_rows b))) ∙ sym (append_assoc (map word_row ws) (tables_rows ts ++ flat_map board_rows bs) (board_rows b))))
+    ∙ (ap (λ (v : List Words). map word_row ws ++ v)
+    (sym (append_assoc (tables_rows ts) (flat_map board_rows bs) (board_rows b)))
+    ∙ sym (append_assoc (map word_row ws) (tables_rows ts ++ flat_map board_rows bs) (board_rows b))))
 
-pub rows_access : (n : ℕ) (ws : List (ℕ × ℕ)) (ts : List TableText) (bs : List BoardText) (b : BoardText) (a : Access) → open_rows (text n ws ts (bs ++ and_access b a ∷ [])) ≡ open_rows (text n ws ts (bs ++ b ∷ [])) ++ access_row a ∷ []
+pub rows_access :
+    (n : ℕ) (ws : List (ℕ × ℕ)) (ts : List TableText) (bs : List BoardText) (b : BoardText) (a : Access)
+    → open_rows (text n ws ts (bs ++ and_access b a ∷ []))
+    ≡ open_rows (text n ws ts (bs ++ b ∷ [])) ++ access_row a ∷ []
 rows_access n ws ts bs b a =
-    let one : board_rows (and_access b a) ≡ board_rows b ++ access_row a ∷ [] = ap (λ (v : List Words). board_row b ∷ v) (map-append access_row b.script (a ∷ [])) in
+    let one : board_rows (and_access b a) ≡ board_rows b ++ access_row a ∷ [] =
+    ap (λ (v : List Words). board_row b ∷ v) (map-append access_row b.script (a ∷ [])) in
     rows_board n ws ts bs (and_access b a) ∙ (ap (λ (v : List Words). open_rows (text n ws ts bs) ++ v) one
-    ∙ (sym (append_assoc (open_rows (text n ws ts bs)) (board_rows b) (access_row a ∷ [])) ∙ ap (λ (v : List Words). v ++ access_row a ∷ []) (sym (rows_board n ws ts bs b))))
+    ∙ (sym (append_assoc (open_rows (text n ws ts bs)) (board_rows b) (access_row a ∷ []))
+    ∙ ap (λ (v : List Words). v ++ access_row a ∷ []) (sym (rows_board n ws ts bs b))))
 
 -- ---- memory
 
@@ -66,7 +88,9 @@ set_long : (m : List ℕ) (ws : List (ℕ × ℕ)) → length (words_set m ws) �
 set_long m [] = refl
 set_long m (w ∷ ws) = set_long (set m w.0 w.1) ws ∙ length-set m w.0 w.1
 
-set_small : (m : List ℕ) (ws : List (ℕ × ℕ)) → AllByRecursion WordFits ws → All (λ word. word < 2 ^ 32) m → All (λ word. word < 2 ^ 32) (words_set m ws)
+set_small :
+    (m : List ℕ) (ws : List (ℕ × ℕ)) → AllByRecursion WordFits ws → All (λ word. word < 2 ^ 32) m
+    → All (λ word. word < 2 ^ 32) (words_set m ws)
 set_small m [] fits h = h
 set_small m (w ∷ ws) fits h = set_small (set m w.0 w.1) ws fits.1 (All-set (λ word. word < 2 ^ 32) m w.0 w.1 fits.0.1 h)
 
@@ -74,14 +98,17 @@ pub memory_long : (n : ℕ) (ws : List (ℕ × ℕ)) → length (memory_of n ws)
 memory_long n ws = set_long (replicate (4 * n) 0) ws ∙ length-replicate (4 * n) 0
 
 memory_small : (n : ℕ) (ws : List (ℕ × ℕ)) → AllByRecursion WordFits ws → All (λ word. word < 2 ^ 32) (memory_of n ws)
-memory_small n ws fits = set_small (replicate (4 * n) 0) ws fits (All-replicate (λ word. word < 2 ^ 32) (4 * n) 0 (omega arith))
+memory_small n ws fits =
+    set_small (replicate (4 * n) 0) ws fits (All-replicate (λ word. word < 2 ^ 32) (4 * n) 0 (omega arith))
 
 pub lines_are : (n : ℕ) (ws : List (ℕ × ℕ)) → length (memory_of n ws) / 4 ≡ n
 lines_are n ws = omega (arith, memory_long n ws)
 
 -- ---- without boards
 
-pub no_boards_draft : (n : ℕ) (ws : List (ℕ × ℕ)) (ts : List TableText) → 1 ≤ n → n ≤ 4096 → AllByRecursion WordFits ws → AreTables (tables_of ts) → IsDraft (setup_of (text n ws ts []))
+pub no_boards_draft :
+    (n : ℕ) (ws : List (ℕ × ℕ)) (ts : List TableText) → 1 ≤ n → n ≤ 4096 → AllByRecursion WordFits ws
+    → AreTables (tables_of ts) → IsDraft (setup_of (text n ws ts []))
 no_boards_draft n ws ts low high fits are = record {
   memory = omega (arith, memory_long n ws, lines_are n ws);
   words = memory_small n ws fits;
@@ -111,7 +138,9 @@ stands_memory n low high = record {
   sound = no_boards_draft n [] [] low high tt no_tables;
 }
 
-pub stands_word : (n : ℕ) (ws : List (ℕ × ℕ)) (w : ℕ × ℕ) → StandsSoFar (text n ws [] []) → WordFits w → w.0 < 4 * n → StandsSoFar (text n (ws ++ w ∷ []) [] [])
+pub stands_word :
+    (n : ℕ) (ws : List (ℕ × ℕ)) (w : ℕ × ℕ) → StandsSoFar (text n ws [] []) → WordFits w → w.0 < 4 * n
+    → StandsSoFar (text n (ws ++ w ∷ []) [] [])
 stands_word n ws w s fits low =
     let lines = lines_of_draft (text n ws [] []) s.sound in
     let words = each_push WordFits ws w s.fits.words fits in
@@ -123,7 +152,9 @@ stands_word n ws w s fits low =
       sound = no_boards_draft n (ws ++ w ∷ []) [] lines.0 lines.1 words no_tables;
     }
 
-pub before_word : (n : ℕ) (ws : List (ℕ × ℕ)) (w : ℕ × ℕ) → StandsSoFar (text n (ws ++ w ∷ []) [] []) → StandsSoFar (text n ws [] []) × WordFits w × (w.0 < 4 * n)
+pub before_word :
+    (n : ℕ) (ws : List (ℕ × ℕ)) (w : ℕ × ℕ) → StandsSoFar (text n (ws ++ w ∷ []) [] [])
+    → StandsSoFar (text n ws [] []) × WordFits w × (w.0 < 4 * n)
 before_word n ws w s =
     let lines = lines_of_draft (text n (ws ++ w ∷ []) [] []) s.sound in
     let words = each_before WordFits ws w s.fits.words in
@@ -156,18 +187,31 @@ table_name name cells = entered_all (empty_table name) cells
     entered_all t (CellLine.local s e alts ∷ cells) = entered_all (entered t (CellLine.local s e alts)) cells
     entered_all t (CellLine.answer s e alts ∷ cells) = entered_all (entered t (CellLine.answer s e alts)) cells
 
-pub tables_append : (ts : List TableText) (t : TableText) → tables_of (ts ++ t ∷ []) ≡ tables_of ts ++ table_of t.name t.cells ∷ []
+pub tables_append :
+    (ts : List TableText) (t : TableText) → tables_of (ts ++ t ∷ []) ≡ tables_of ts ++ table_of t.name t.cells ∷ []
 tables_append ts t = map-append (λ (t : TableText). table_of t.name t.cells) ts (t ∷ [])
 
-pub tables_grow : (ts : List TableText) (t : TableText) → AreTables (tables_of ts) → TableStands (tables_of ts) t → AreTables (tables_of (ts ++ t ∷ []))
+pub tables_grow :
+    (ts : List TableText) (t : TableText) → AreTables (tables_of ts) → TableStands (tables_of ts) t
+    → AreTables (tables_of (ts ++ t ∷ []))
 tables_grow ts t are h =
-    subst AreTables (sym (tables_append ts t)) (tables_push (tables_of ts) (table_of t.name t.cells) are h.few (ap (found_name (map named (tables_of ts))) (table_name t.name t.cells) ∙ h.new))
+    subst AreTables (sym (tables_append ts t))
+    (tables_push (tables_of ts) (table_of t.name t.cells) are h.few
+    (ap (found_name (map named (tables_of ts))) (table_name t.name t.cells) ∙ h.new))
 
-pub stands_table : (n : ℕ) (ws : List (ℕ × ℕ)) (ts : List TableText) (t : TableText) → StandsSoFar (text n ws ts []) → TableStands (tables_of ts) t → StandsSoFar (text n ws (ts ++ t ∷ []) [])
+pub stands_table :
+    (n : ℕ) (ws : List (ℕ × ℕ)) (ts : List TableText) (t : TableText) → StandsSoFar (text n ws ts [])
+    → TableStands (tables_of ts) t → StandsSoFar (text n ws (ts ++ t ∷ []) [])
 stands_table n ws ts t s h =
     let lines = lines_of_draft (text n ws ts []) s.sound in
     record {
-      fits = record { lines = s.fits.lines; words = s.fits.words; tables = each_push TableFits ts t s.fits.tables h.fits; boards = tt };
+      fits =
+          record {
+            lines = s.fits.lines;
+            words = s.fits.words;
+            tables = each_push TableFits ts t s.fits.tables h.fits;
+            boards = tt;
+          };
       addresses = s.addresses;
       cells = each_push CellsStand ts t s.cells h.cells;
       places = tt;
@@ -179,33 +223,54 @@ stands_table n ws ts t s h =
 abbrev pub spec_of : List TableText → BoardText → BoardSpec
 spec_of ts b = board_of (tables_of ts) b
 
-pub setup_board : (n : ℕ) (ws : List (ℕ × ℕ)) (ts : List TableText) (bs : List BoardText) (b : BoardText) → b.script ≡ [] → setup_of (text n ws ts (bs ++ b ∷ [])) ≡ with_board (setup_of (text n ws ts bs)) (spec_of ts b)
+pub setup_board :
+    (n : ℕ) (ws : List (ℕ × ℕ)) (ts : List TableText) (bs : List BoardText) (b : BoardText) → b.script ≡ []
+    → setup_of (text n ws ts (bs ++ b ∷ [])) ≡ with_board (setup_of (text n ws ts bs)) (spec_of ts b)
 setup_board n ws ts bs b none =
     let boards = map-append (board_of (tables_of ts)) bs (b ∷ []) in
-    let scripts = map-append (λ (b : BoardText). b.script) bs (b ∷ []) ∙ ap (λ (x : List Access). map (λ (b : BoardText). b.script) bs ++ x ∷ []) none in
+    let scripts = map-append (λ (b : BoardText). b.script) bs (b ∷ [])
+    ∙ ap (λ (x : List Access). map (λ (b : BoardText). b.script) bs ++ x ∷ []) none in
     λ i. record { memory = memory_of n ws; tables = tables_of ts; boards = boards i; scripts = scripts i }
 
-pub places_push : (n : ℕ) (bs : List BoardText) (b : BoardText) → InPlaces n bs → b.place ≡ n + length bs → InPlaces n (bs ++ b ∷ [])
+pub places_push :
+    (n : ℕ) (bs : List BoardText) (b : BoardText) → InPlaces n bs → b.place ≡ n + length bs → InPlaces n (bs ++ b ∷ [])
 places_push n [] b h e = (omega (arith, e), tt)
 places_push n (c ∷ bs) b h e = (h.0, places_push (n + 1) bs b h.1 (omega (arith, e)))
 
-pub places_before : (n : ℕ) (bs : List BoardText) (b : BoardText) → InPlaces n (bs ++ b ∷ []) → InPlaces n bs × (b.place ≡ n + length bs)
+pub places_before :
+    (n : ℕ) (bs : List BoardText) (b : BoardText) → InPlaces n (bs ++ b ∷ [])
+    → InPlaces n bs × (b.place ≡ n + length bs)
 places_before n [] b h = (tt, omega (arith, h.0))
 places_before n (c ∷ bs) b h = let rest = places_before (n + 1) bs b h.1 in ((h.0, rest.0), omega (arith, rest.1))
 
-pub stands_board : (n : ℕ) (ws : List (ℕ × ℕ)) (ts : List TableText) (bs : List BoardText) (b : BoardText) → StandsSoFar (text n ws ts bs) → b.script ≡ [] → BoardFits b → b.place ≡ length bs + 1 → length bs < 16
-    → checked.BoardFits (setup_of (text n ws ts bs)) (spec_of ts b) → has_number (setup_of (text n ws ts bs)).boards b.number ≡ false → StandsSoFar (text n ws ts (bs ++ b ∷ []))
+pub stands_board :
+    (n : ℕ) (ws : List (ℕ × ℕ)) (ts : List TableText) (bs : List BoardText) (b : BoardText)
+    → StandsSoFar (text n ws ts bs) → b.script ≡ [] → BoardFits b → b.place ≡ length bs + 1 → length bs < 16
+    → checked.BoardFits (setup_of (text n ws ts bs)) (spec_of ts b)
+    → has_number (setup_of (text n ws ts bs)).boards b.number ≡ false → StandsSoFar (text n ws ts (bs ++ b ∷ []))
 stands_board n ws ts bs b s none fits place few sound new =
     let count : length (setup_of (text n ws ts bs)).boards ≡ length bs = length-map bs (board_of (tables_of ts)) in
     record {
-      fits = record { lines = s.fits.lines; words = s.fits.words; tables = s.fits.tables; boards = each_push BoardFits bs b s.fits.boards fits };
+      fits =
+          record {
+            lines = s.fits.lines;
+            words = s.fits.words;
+            tables = s.fits.tables;
+            boards = each_push BoardFits bs b s.fits.boards fits;
+          };
       addresses = s.addresses;
       cells = s.cells;
       places = places_push 1 bs b s.places (omega (arith, place));
-      sound = subst IsDraft (sym (setup_board n ws ts bs b none)) (board_keeps (setup_of (text n ws ts bs)) (spec_of ts b) s.sound (omega arith) sound new);
+      sound =
+          subst IsDraft (sym (setup_board n ws ts bs b none))
+          (board_keeps (setup_of (text n ws ts bs)) (spec_of ts b) s.sound (omega arith) sound new);
     }
 
-pub before_board : (n : ℕ) (ws : List (ℕ × ℕ)) (ts : List TableText) (bs : List BoardText) (b : BoardText) → b.script ≡ [] → StandsSoFar (text n ws ts (bs ++ b ∷ [])) → StandsSoFar (text n ws ts bs) × BoardFits b × (b.place ≡ length bs + 1) × IsDraft (with_board (setup_of (text n ws ts bs)) (spec_of ts b))
+pub before_board :
+    (n : ℕ) (ws : List (ℕ × ℕ)) (ts : List TableText) (bs : List BoardText) (b : BoardText) → b.script ≡ []
+    → StandsSoFar (text n ws ts (bs ++ b ∷ []))
+    → StandsSoFar (text n ws ts bs) × BoardFits b × (b.place ≡ length bs + 1)
+    × IsDraft (with_board (setup_of (text n ws ts bs)) (spec_of ts b))
 before_board n ws ts bs b none s =
     let fits = each_before BoardFits bs b s.fits.boards in
     let places = places_before 1 bs b s.places in
@@ -224,53 +289,120 @@ before_board n ws ts bs b none s =
 
 -- ---- an access
 
-scripts_end : (bs : List BoardText) (b : BoardText) → map (λ (b : BoardText). b.script) (bs ++ b ∷ []) ≡ map (λ (b : BoardText). b.script) bs ++ b.script ∷ []
+scripts_end :
+    (bs : List BoardText) (b : BoardText)
+    → map (λ (b : BoardText). b.script) (bs ++ b ∷ []) ≡ map (λ (b : BoardText). b.script) bs ++ b.script ∷ []
 scripts_end bs b = map-append (λ (b : BoardText). b.script) bs (b ∷ [])
 
-boards_end : (ts : List TableText) (bs : List BoardText) (b c : BoardText) → spec_of ts b ≡ spec_of ts c → map (board_of (tables_of ts)) (bs ++ b ∷ []) ≡ map (board_of (tables_of ts)) (bs ++ c ∷ [])
-boards_end ts bs b c e = map-append (board_of (tables_of ts)) bs (b ∷ []) ∙ (ap (λ (x : BoardSpec). map (board_of (tables_of ts)) bs ++ x ∷ []) e ∙ sym (map-append (board_of (tables_of ts)) bs (c ∷ [])))
+boards_end :
+    (ts : List TableText) (bs : List BoardText) (b c : BoardText) → spec_of ts b ≡ spec_of ts c
+    → map (board_of (tables_of ts)) (bs ++ b ∷ []) ≡ map (board_of (tables_of ts)) (bs ++ c ∷ [])
+boards_end ts bs b c e =
+    map-append (board_of (tables_of ts)) bs (b ∷ [])
+    ∙ (ap (λ (x : BoardSpec). map (board_of (tables_of ts)) bs ++ x ∷ []) e
+    ∙ sym (map-append (board_of (tables_of ts)) bs (c ∷ [])))
 
-pub setup_access : (n : ℕ) (ws : List (ℕ × ℕ)) (ts : List TableText) (bs : List BoardText) (b : BoardText) (a : Access) → setup_of (text n ws ts (bs ++ and_access b a ∷ [])) ≡ with_access (setup_of (text n ws ts (bs ++ b ∷ []))) a
+pub setup_access :
+    (n : ℕ) (ws : List (ℕ × ℕ)) (ts : List TableText) (bs : List BoardText) (b : BoardText) (a : Access)
+    → setup_of (text n ws ts (bs ++ and_access b a ∷ [])) ≡ with_access (setup_of (text n ws ts (bs ++ b ∷ []))) a
 setup_access n ws ts bs b a =
     let boards = boards_end ts bs (and_access b a) b refl in
     let front : List (List Access) = map (λ (b : BoardText). b.script) bs in
-    let scripts = scripts_end bs (and_access b a) ∙ (sym (access_at_end front b.script a) ∙ ap (λ (x : List (List Access)). (with_access (record { memory = []; tables = []; boards = []; scripts = x }) a).scripts) (sym (scripts_end bs b))) in
+    let scripts = scripts_end bs (and_access b a)
+    ∙ (sym (access_at_end front b.script a)
+    ∙ ap (λ (x : List (List Access)).
+    (with_access (record { memory = []; tables = []; boards = []; scripts = x }) a).scripts)
+    (sym (scripts_end bs b))) in
     λ i. record { memory = memory_of n ws; tables = tables_of ts; boards = boards i; scripts = scripts i }
 
-places_same : (n : ℕ) (bs : List BoardText) (b c : BoardText) → b.place ≡ c.place → InPlaces n (bs ++ b ∷ []) → InPlaces n (bs ++ c ∷ [])
+places_same :
+    (n : ℕ) (bs : List BoardText) (b c : BoardText) → b.place ≡ c.place → InPlaces n (bs ++ b ∷ [])
+    → InPlaces n (bs ++ c ∷ [])
 places_same n [] b c e h = (sym e ∙ h.0, tt)
 places_same n (x ∷ bs) b c e h = (h.0, places_same (n + 1) bs b c e h.1)
 
 fits_access : (b : BoardText) (a : Access) → BoardFits b → AccessFits a → BoardFits (and_access b a)
-fits_access b a h fits = record { place = h.place; number = h.number; table = h.table; shape = h.shape; choose = h.choose; script = each_push AccessFits b.script a h.script fits }
+fits_access b a h fits =
+    record {
+      place = h.place;
+      number = h.number;
+      table = h.table;
+      shape = h.shape;
+      choose = h.choose;
+      script = each_push AccessFits b.script a h.script fits;
+    }
 
 fits_before : (b : BoardText) (a : Access) → BoardFits (and_access b a) → BoardFits b × AccessFits a
-fits_before b a h = let script = each_before AccessFits b.script a h.script in (record { place = h.place; number = h.number; table = h.table; shape = h.shape; choose = h.choose; script = script.0 }, script.1)
+fits_before b a h =
+    let script = each_before AccessFits b.script a h.script in (
+      record {
+        place = h.place;
+        number = h.number;
+        table = h.table;
+        shape = h.shape;
+        choose = h.choose;
+        script = script.0;
+      },
+      script.1,
+    )
 
-pub stands_access : (n : ℕ) (ws : List (ℕ × ℕ)) (ts : List TableText) (bs : List BoardText) (b : BoardText) (a : Access) → StandsSoFar (text n ws ts (bs ++ b ∷ [])) → AccessFits a → access_count (setup_of (text n ws ts (bs ++ b ∷ []))) < 100000
+pub stands_access :
+    (n : ℕ) (ws : List (ℕ × ℕ)) (ts : List TableText) (bs : List BoardText) (b : BoardText) (a : Access)
+    → StandsSoFar (text n ws ts (bs ++ b ∷ [])) → AccessFits a
+    → access_count (setup_of (text n ws ts (bs ++ b ∷ []))) < 100000
     → address_of a < length (memory_of n ws) → StandsSoFar (text n ws ts (bs ++ and_access b a ∷ []))
 stands_access n ws ts bs b a s fits few within =
     let boards = each_before BoardFits bs b s.fits.boards in
-    let some : 1 ≤ length (map (board_of (tables_of ts)) (bs ++ b ∷ [])) = omega (arith, length-map (bs ++ b ∷ []) (board_of (tables_of ts)), length-append bs (b ∷ [])) in
+    let some : 1 ≤ length (map (board_of (tables_of ts)) (bs ++ b ∷ [])) =
+    omega (arith, length-map (bs ++ b ∷ []) (board_of (tables_of ts)), length-append bs (b ∷ [])) in
     record {
-      fits = record { lines = s.fits.lines; words = s.fits.words; tables = s.fits.tables; boards = each_push BoardFits bs (and_access b a) boards.0 (fits_access b a boards.1 fits) };
+      fits =
+          record {
+            lines = s.fits.lines;
+            words = s.fits.words;
+            tables = s.fits.tables;
+            boards = each_push BoardFits bs (and_access b a) boards.0 (fits_access b a boards.1 fits);
+          };
       addresses = s.addresses;
       cells = s.cells;
       places = places_same 1 bs b (and_access b a) refl s.places;
-      sound = subst IsDraft (sym (setup_access n ws ts bs b a)) (access_keeps (setup_of (text n ws ts (bs ++ b ∷ []))) a s.sound some few within);
+      sound =
+          subst IsDraft (sym (setup_access n ws ts bs b a))
+          (access_keeps (setup_of (text n ws ts (bs ++ b ∷ []))) a s.sound some few within);
     }
 
-pub before_access : (n : ℕ) (ws : List (ℕ × ℕ)) (ts : List TableText) (bs : List BoardText) (b : BoardText) (a : Access) → StandsSoFar (text n ws ts (bs ++ and_access b a ∷ []))
-    → StandsSoFar (text n ws ts (bs ++ b ∷ [])) × AccessFits a × (access_count (setup_of (text n ws ts (bs ++ b ∷ []))) < 100000) × (address_of a < length (memory_of n ws))
+pub before_access :
+    (n : ℕ) (ws : List (ℕ × ℕ)) (ts : List TableText) (bs : List BoardText) (b : BoardText) (a : Access)
+    → StandsSoFar (text n ws ts (bs ++ and_access b a ∷ []))
+    → StandsSoFar (text n ws ts (bs ++ b ∷ [])) × AccessFits a
+    × (access_count (setup_of (text n ws ts (bs ++ b ∷ []))) < 100000) × (address_of a < length (memory_of n ws))
 before_access n ws ts bs b a s =
     let boards = each_before BoardFits bs (and_access b a) s.fits.boards in
     let one = fits_before b a boards.1 in
     let front : List (List Access) = map (λ (b : BoardText). b.script) bs in
-    let draft : IsDraft (record { memory = memory_of n ws; tables = tables_of ts; boards = map (board_of (tables_of ts)) (bs ++ b ∷ []); scripts = front ++ (b.script ++ a ∷ []) ∷ [] }) =
-    subst IsDraft (λ i. record { memory = memory_of n ws; tables = tables_of ts; boards = boards_end ts bs (and_access b a) b refl i; scripts = scripts_end bs (and_access b a) i }) s.sound in
+    let draft : IsDraft (record {
+      memory = memory_of n ws;
+      tables = tables_of ts;
+      boards = map (board_of (tables_of ts)) (bs ++ b ∷ []);
+      scripts = front ++ (b.script ++ a ∷ []) ∷ [];
+    }) =
+    subst IsDraft (λ i.
+    record {
+      memory = memory_of n ws;
+      tables = tables_of ts;
+      boards = boards_end ts bs (and_access b a) b refl i;
+      scripts = scripts_end bs (and_access b a) i;
+    })
+    s.sound in
     let before = access_before (setup_of (text n ws ts (bs ++ b ∷ []))) front b.script a (scripts_end bs b) draft in (
       record {
-        fits = record { lines = s.fits.lines; words = s.fits.words; tables = s.fits.tables; boards = each_push BoardFits bs b boards.0 one.0 };
+        fits =
+            record {
+              lines = s.fits.lines;
+              words = s.fits.words;
+              tables = s.fits.tables;
+              boards = each_push BoardFits bs b boards.0 one.0;
+            };
         addresses = s.addresses;
         cells = s.cells;
         places = places_same 1 bs (and_access b a) b refl s.places;

@@ -21,8 +21,8 @@ use Rattle.table_check.specs.declared.boards.BoardSpec.{BoardSpec}
 use Rattle.table_check.specs.declared.boards.Shape.{Shape}
 use Rattle.table_check.specs.declared.boards.Shape.TheVariants.{Plain, Cached}
 use Rattle.table_check.specs.Reached.{Reached, is_reached}
-use Rattle.table_check.specs.Setup.{Setup, access_count}
-use Rattle.table_check.specs.Setup as checked
+use Rattle.setup.specs.Setup.{Setup, access_count}
+use Rattle.setup.specs.Setup as checked
 use Rattle.table_check.proofs.Reaching.{test-reached}
 use Rattle.table_text.specs.Reading.{◌>>=◌}
 use Rattle.table_text.specs.Spelling.{CellLine, cell_words, entered, all_entered, table_of}
@@ -50,19 +50,28 @@ pub rows_append : (m : Mode) (a b : List Words) → rows_at m (a ++ b) ≡ (rows
 rows_append m [] b = refl
 rows_append m (l ∷ a) b = go (line_at m l) (λ k. rows_append k a b)
   where
-    go : (x : Result Mode SetupKind) → ((k : Mode) → rows_at k (a ++ b) ≡ (rows_at k a >>= λ k. rows_at k b)) → (x >>= λ k. rows_at k (a ++ b)) ≡ ((x >>= λ k. rows_at k a) >>= λ k. rows_at k b)
+    go :
+        (x : Result Mode SetupKind) → ((k : Mode) → rows_at k (a ++ b) ≡ (rows_at k a >>= λ k. rows_at k b))
+        → (x >>= λ k. rows_at k (a ++ b)) ≡ ((x >>= λ k. rows_at k a) >>= λ k. rows_at k b)
     go (Ok k) ih = ih k
     go (Err e) ih = refl
 
-pub rows_push : (m k j : Mode) (a : List Words) (l : Words) → rows_at m a ≡ Ok k → line_at k l ≡ Ok j → rows_at m (a ++ l ∷ []) ≡ Ok j
+pub rows_push :
+    (m k j : Mode) (a : List Words) (l : Words) → rows_at m a ≡ Ok k → line_at k l ≡ Ok j
+    → rows_at m (a ++ l ∷ []) ≡ Ok j
 rows_push m k j a l e h = rows_append m a (l ∷ []) ∙ rw (e, h) refl
 
-pub lines_run : (m k : Mode) (ls : List Line) (end : ℕ) → rows_at m (map (λ (l : Line). l.words) ls) ≡ Ok k → lines_at m ls end ≡ text_ends k end
+pub lines_run :
+    (m k : Mode) (ls : List Line) (end : ℕ) → rows_at m (map (λ (l : Line). l.words) ls) ≡ Ok k
+    → lines_at m ls end ≡ text_ends k end
 unfolding lines_at
 lines_run m k [] end e = let same : m ≡ k = cc in ap (λ (x : Mode). text_ends x end) same
 lines_run m k (l ∷ ls) end e = go (line_at m l.words) e (λ j h. lines_run j k ls end h)
   where
-    go : (x : Result Mode SetupKind) → (x >>= λ j. rows_at j (map (λ (l : Line). l.words) ls)) ≡ Ok k → ((j : Mode) → rows_at j (map (λ (l : Line). l.words) ls) ≡ Ok k → lines_at j ls end ≡ text_ends k end) → (on_line l.number x >>= λ next. lines_at next ls end) ≡ text_ends k end
+    go :
+        (x : Result Mode SetupKind) → (x >>= λ j. rows_at j (map (λ (l : Line). l.words) ls)) ≡ Ok k
+        → ((j : Mode) → rows_at j (map (λ (l : Line). l.words) ls) ≡ Ok k → lines_at j ls end ≡ text_ends k end)
+        → (on_line l.number x >>= λ next. lines_at next ls end) ≡ text_ends k end
     go (Ok j) e ih = ih j e
     go (Err f) e ih = absurd cc
 
@@ -72,40 +81,66 @@ memory_again : (n : ℕ) → 1 ≤ n → n ≤ 4096 → line_at start (memory_ro
 unfolding first_line
 memory_again n low high = rw (memory_reads n low high) refl
 
-word_again : (n : ℕ) (ws : List (ℕ × ℕ)) (w : ℕ × ℕ) → WordFits w → w.0 < 4 * n → line_at (body (setup_of (text n ws [] []))) (word_row w) ≡ Ok (body (setup_of (text n (ws ++ w ∷ []) [] [])))
+word_again :
+    (n : ℕ) (ws : List (ℕ × ℕ)) (w : ℕ × ℕ) → WordFits w → w.0 < 4 * n
+    → line_at (body (setup_of (text n ws [] []))) (word_row w) ≡ Ok (body (setup_of (text n (ws ++ w ∷ []) [] [])))
 unfolding body_line
 word_again n ws w fits low =
     let within : w.0 < length (memory_of n ws) = omega (arith, memory_long n ws) in
     rw (value_line_reads (length (memory_of n ws)) w.0 w.1 within fits.0 fits.1)
-    (ap (λ (x : List ℕ). Ok (body (record { memory = x; tables = []; boards = []; scripts = [] }))) (sym (set_push _ ws w)))
+    (ap (λ (x : List ℕ). Ok (body (record { memory = x; tables = []; boards = []; scripts = [] })))
+    (sym (set_push _ ws w)))
 
-head_again : (n : ℕ) (ws : List (ℕ × ℕ)) (ts : List TableText) (t : TableText) → TableStands (tables_of ts) t → line_at (body (setup_of (text n ws ts []))) (head_row t.name) ≡ Ok (in_table (setup_of (text n ws ts [])) (empty_table t.name))
+head_again :
+    (n : ℕ) (ws : List (ℕ × ℕ)) (ts : List TableText) (t : TableText) → TableStands (tables_of ts) t
+    → line_at (body (setup_of (text n ws ts []))) (head_row t.name)
+    ≡ Ok (in_table (setup_of (text n ws ts [])) (empty_table t.name))
 unfolding body_line
 head_again n ws ts t h = rw (head_reads (tables_of ts) t.name h.few h.fits.name h.new) refl
 
 -- ---- a table
 
-cells_again : (setup : Setup) (t : Table) (cells : List CellLine) → HasAllCells t → AllStand t cells → rows_at (in_table setup t) (map cell_words cells) ≡ Ok (in_table setup (all_entered t cells))
+cells_again :
+    (setup : Setup) (t : Table) (cells : List CellLine) → HasAllCells t → AllStand t cells
+    → rows_at (in_table setup t) (map cell_words cells) ≡ Ok (in_table setup (all_entered t cells))
 cells_again setup t [] whole h = refl
-cells_again setup t (c ∷ cells) whole h = rw (line_again t c whole h.0) (cells_again setup (entered t c) cells (entered_whole t c whole) h.1)
+cells_again setup t (c ∷ cells) whole h =
+    rw (line_again t c whole h.0) (cells_again setup (entered t c) cells (entered_whole t c whole) h.1)
 
-pub open_again : (n : ℕ) (ws : List (ℕ × ℕ)) (ts : List TableText) (t : TableText) → TableStands (tables_of ts) t → rows_at (body (setup_of (text n ws ts []))) (open_table_rows t) ≡ Ok (in_table (setup_of (text n ws ts [])) (table_of t.name t.cells))
-open_again n ws ts t h = rw (head_again n ws ts t h) (cells_again (setup_of (text n ws ts [])) (empty_table t.name) t.cells (empty_whole t.name) h.cells)
+pub open_again :
+    (n : ℕ) (ws : List (ℕ × ℕ)) (ts : List TableText) (t : TableText) → TableStands (tables_of ts) t
+    → rows_at (body (setup_of (text n ws ts []))) (open_table_rows t)
+    ≡ Ok (in_table (setup_of (text n ws ts [])) (table_of t.name t.cells))
+open_again n ws ts t h =
+    rw (head_again n ws ts t h)
+    (cells_again (setup_of (text n ws ts [])) (empty_table t.name) t.cells (empty_whole t.name) h.cells)
 
-table_again : (n : ℕ) (ws : List (ℕ × ℕ)) (ts : List TableText) (t : TableText) → TableStands (tables_of ts) t → rows_at (body (setup_of (text n ws ts []))) (table_rows t) ≡ Ok (body (setup_of (text n ws (ts ++ t ∷ []) [])))
+table_again :
+    (n : ℕ) (ws : List (ℕ × ℕ)) (ts : List TableText) (t : TableText) → TableStands (tables_of ts) t
+    → rows_at (body (setup_of (text n ws ts []))) (table_rows t) ≡ Ok (body (setup_of (text n ws (ts ++ t ∷ []) [])))
 table_again n ws ts t h =
-    let closes : line_at (in_table (setup_of (text n ws ts [])) (table_of t.name t.cells)) end_row ≡ Ok (body (with_table (setup_of (text n ws ts [])) (table_of t.name t.cells))) = rw (end_again (table_of t.name t.cells)) refl in
-    rows_push (body (setup_of (text n ws ts []))) (in_table (setup_of (text n ws ts [])) (table_of t.name t.cells)) (body (with_table (setup_of (text n ws ts [])) (table_of t.name t.cells))) (open_table_rows t) end_row (open_again n ws ts t h) closes
-    ∙ ap (λ (x : List Table). Ok (body (record { memory = memory_of n ws; tables = x; boards = []; scripts = [] }))) (sym (tables_append ts t))
+    let closes : line_at (in_table (setup_of (text n ws ts [])) (table_of t.name t.cells)) end_row
+    ≡ Ok (body (with_table (setup_of (text n ws ts [])) (table_of t.name t.cells))) =
+    rw (end_again (table_of t.name t.cells)) refl in
+    rows_push (body (setup_of (text n ws ts []))) (in_table (setup_of (text n ws ts [])) (table_of t.name t.cells))
+    (body (with_table (setup_of (text n ws ts [])) (table_of t.name t.cells))) (open_table_rows t) end_row
+    (open_again n ws ts t h) closes
+    ∙ ap (λ (x : List Table). Ok (body (record { memory = memory_of n ws; tables = x; boards = []; scripts = [] })))
+    (sym (tables_append ts t))
 
 -- ---- a board
 
 -- a name whose place is that of a table is found there
-known_found : (w : List ℕ) (ts : List Table) → place_of ts w < length ts → (b : Bool) × (found_name (map named ts) w ≡ Some (place_of ts w, b))
+known_found :
+    (w : List ℕ) (ts : List Table) → place_of ts w < length ts
+    → (b : Bool) × (found_name (map named ts) w ≡ Some (place_of ts w, b))
 known_found w [] low = absurd (omega arith)
 known_found w (t ∷ ts) low = go (bytes_eq w t.name) refl low (λ h. known_found w ts h)
   where
-    go : (b : Bool) → bytes_eq w t.name ≡ b → cond b 0 (place_of ts w + 1) < length (t ∷ ts) → (place_of ts w < length ts → (b : Bool) × (found_name (map named ts) w ≡ Some (place_of ts w, b))) → (x : Bool) × (found_name (map named (t ∷ ts)) w ≡ Some (place_of (t ∷ ts) w, x))
+    go :
+        (b : Bool) → bytes_eq w t.name ≡ b → cond b 0 (place_of ts w + 1) < length (t ∷ ts)
+        → (place_of ts w < length ts → (b : Bool) × (found_name (map named ts) w ≡ Some (place_of ts w, b)))
+        → (x : Bool) × (found_name (map named (t ∷ ts)) w ≡ Some (place_of (t ∷ ts) w, x))
     go true h low ih = (stays_invalid t, rw h refl)
     go false h low ih = let rest = ih (omega arith) in (rest.0, rw (h, rest.1) refl)
 
@@ -117,13 +152,22 @@ not_reached t s other only = go (is_reached t s) refl
     go false h = refl
 
 only_invalid : (t : Table) → ((x : State) → Reached t x → x ≡ I) → stays_invalid t ≡ true
-only_invalid t only = rw (not_reached t M (λ h. cc) only, not_reached t O (λ h. cc) only, not_reached t E (λ h. cc) only, not_reached t S (λ h. cc) only) refl
+only_invalid t only =
+    rw (
+      not_reached t M (λ h. cc) only,
+      not_reached t O (λ h. cc) only,
+      not_reached t E (λ h. cc) only,
+      not_reached t S (λ h. cc) only,
+    ) refl
 
 shape_is : (t : Table) (s : Shape) → checked.ShapeFits t s → IsShape (stays_invalid t) s
 shape_is t Plain h = only_invalid t h
 shape_is t (Cached m n) h = h
 
-board_again : (n : ℕ) (ws : List (ℕ × ℕ)) (ts : List TableText) (bs : List BoardText) (b : BoardText) → b.script ≡ [] → StandsSoFar (text n ws ts (bs ++ b ∷ [])) → line_at (body (setup_of (text n ws ts bs))) (board_row b) ≡ Ok (body (setup_of (text n ws ts (bs ++ b ∷ []))))
+board_again :
+    (n : ℕ) (ws : List (ℕ × ℕ)) (ts : List TableText) (bs : List BoardText) (b : BoardText) → b.script ≡ []
+    → StandsSoFar (text n ws ts (bs ++ b ∷ []))
+    → line_at (body (setup_of (text n ws ts bs))) (board_row b) ≡ Ok (body (setup_of (text n ws ts (bs ++ b ∷ []))))
 unfolding body_line board_line
 board_again n ws ts bs b none s =
     let before = before_board n ws ts bs b none s in
@@ -133,17 +177,30 @@ board_again n ws ts bs b none s =
     let count : length boards ≡ length bs = length-map bs (board_of (tables_of ts)) in
     let high : length (boards ++ spec_of ts b ∷ []) ≤ 16 = draft.boards_high in
     let few : length boards < 16 = omega (arith, length-append boards (spec_of ts b ∷ [])) in
-    let board = all_last (checked.BoardFits (with_board (setup_of (text n ws ts bs)) (spec_of ts b))) boards (spec_of ts b) draft.boards in
+    let board = all_last (checked.BoardFits (with_board (setup_of (text n ws ts bs)) (spec_of ts b))) boards
+    (spec_of ts b) draft.boards in
     let known = known_found b.table (tables_of ts) board.table in
     let flag = found_known b.table (tables_of ts) (place_of (tables_of ts) b.table, known.0) known.1 in
-    let shape : IsShape known.0 b.shape = (let P : Bool → Type 0 = λ x. IsShape x b.shape in subst P (sym flag.1) (shape_is (get_or (tables_of ts) (place_of (tables_of ts) b.table) (empty_table [])) b.shape board.shape)) in
-    let new : has_number boards b.number ≡ false = new_number_is boards b.number (λ k d low. pairs_last (λ (a c : BoardSpec). a.number ≢ c.number) boards (spec_of ts b) d draft.numbers k low) in
-    let place : decimal b.place ≡ decimal (length boards + 1) = ap decimal (before.2 ∙ ap (λ (x : ℕ). x + 1) (sym count)) in
-    let line : board_line (setup_of (text n ws ts bs)) (decimal b.place ∷ codes "number" ∷ decimal b.number ∷ codes "table" ∷ b.table ∷ (shape_words b.shape ++ codes "choose" ∷ choose_words b.choose)) ≡ Ok (spec_of ts b) =
+    let shape : IsShape known.0 b.shape =
+    (let P : Bool → Type 0 = λ x. IsShape x b.shape in
+    subst P (sym flag.1)
+    (shape_is (get_or (tables_of ts) (place_of (tables_of ts) b.table) (empty_table [])) b.shape board.shape)) in
+    let new : has_number boards b.number ≡ false =
+    new_number_is boards b.number
+    (λ k d low. pairs_last (λ (a c : BoardSpec). a.number ≢ c.number) boards (spec_of ts b) d draft.numbers k low)
+    in
+    let place : decimal b.place ≡ decimal (length boards + 1) =
+    ap decimal (before.2 ∙ ap (λ (x : ℕ). x + 1) (sym count)) in
+    let line : board_line (setup_of (text n ws ts bs))
+    (decimal b.place ∷ codes "number" ∷ decimal b.number ∷ codes "table" ∷ b.table
+    ∷ (shape_words b.shape ++ codes "choose" ∷ choose_words b.choose)) ≡ Ok (spec_of ts b) =
     rw (
       place,
-      front_reads boards b.number (codes "table" ∷ b.table ∷ (shape_words b.shape ++ codes "choose" ∷ choose_words b.choose)) few fits.number.0 fits.number.1 new,
-      table_reads (tables_of ts) b.table (place_of (tables_of ts) b.table, known.0) (shape_words b.shape ++ codes "choose" ∷ choose_words b.choose) fits.table known.1,
+      front_reads boards b.number
+          (codes "table" ∷ b.table ∷ (shape_words b.shape ++ codes "choose" ∷ choose_words b.choose)) few fits.number.0
+          fits.number.1 new,
+      table_reads (tables_of ts) b.table (place_of (tables_of ts) b.table, known.0)
+          (shape_words b.shape ++ codes "choose" ∷ choose_words b.choose) fits.table known.1,
       shape_reads known.0 b.shape (codes "choose" ∷ choose_words b.choose) fits.shape shape,
       back_reads b.choose fits.choose,
     ) refl in
@@ -151,77 +208,115 @@ board_again n ws ts bs b none s =
 
 -- ---- an access
 
-event_line : (event : LocalEvent) (setup : Setup) (rest : Words) → line_at (body setup) (local_event_word event ∷ rest) ≡ access_read setup event rest
+event_line :
+    (event : LocalEvent) (setup : Setup) (rest : Words)
+    → line_at (body setup) (local_event_word event ∷ rest) ≡ access_read setup event rest
 unfolding body_line local_event_of
 event_line events.Read setup rest = refl
 event_line events.Write setup rest = refl
 event_line events.Pass setup rest = refl
 event_line events.Flush setup rest = refl
 
-some_boards : (ts : List TableText) (bs : List BoardText) (b : BoardText) → is_empty (map (board_of (tables_of ts)) (bs ++ b ∷ [])) ≡ false
+some_boards :
+    (ts : List TableText) (bs : List BoardText) (b : BoardText)
+    → is_empty (map (board_of (tables_of ts)) (bs ++ b ∷ [])) ≡ false
 some_boards ts [] b = refl
 some_boards ts (x ∷ bs) b = refl
 
-access_again : (n : ℕ) (ws : List (ℕ × ℕ)) (ts : List TableText) (bs : List BoardText) (b : BoardText) (a : Access) → StandsSoFar (text n ws ts (bs ++ and_access b a ∷ [])) → line_at (body (setup_of (text n ws ts (bs ++ b ∷ [])))) (access_row a) ≡ Ok (body (setup_of (text n ws ts (bs ++ and_access b a ∷ []))))
+access_again :
+    (n : ℕ) (ws : List (ℕ × ℕ)) (ts : List TableText) (bs : List BoardText) (b : BoardText) (a : Access)
+    → StandsSoFar (text n ws ts (bs ++ and_access b a ∷ []))
+    → line_at (body (setup_of (text n ws ts (bs ++ b ∷ [])))) (access_row a)
+    ≡ Ok (body (setup_of (text n ws ts (bs ++ and_access b a ∷ []))))
 access_again n ws ts bs b a s =
     let before = before_access n ws ts bs b a s in
     let setup = setup_of (text n ws ts (bs ++ b ∷ [])) in
     let w = access_reads (length (memory_of n ws)) a before.1 before.3 in
     ap (λ (l : Words). line_at (body setup) l) w.words ∙ (event_line w.event setup w.rest
-    ∙ (rw (some_boards ts bs b, lt-ltb (access_count setup) 100000 before.2, w.reads) refl ∙ ap (λ (x : Setup). Ok (body x)) (sym (setup_access n ws ts bs b a))))
+    ∙ (rw (some_boards ts bs b, lt-ltb (access_count setup) 100000 before.2, w.reads) refl
+    ∙ ap (λ (x : Setup). Ok (body x)) (sym (setup_access n ws ts bs b a))))
 
 -- ---- all lines
 
 abbrev Runs : SetupText → Type 0
 Runs s = rows_at start (open_rows s) ≡ Ok (body (setup_of s))
 
-words_run : (n : ℕ) (done more : List (ℕ × ℕ)) → AllByRecursion WordFits more → AllByRecursion (λ w. w.0 < 4 * n) more → rows_at (body (setup_of (text n done [] []))) (map word_row more) ≡ Ok (body (setup_of (text n (done ++ more) [] [])))
+words_run :
+    (n : ℕ) (done more : List (ℕ × ℕ)) → AllByRecursion WordFits more → AllByRecursion (λ w. w.0 < 4 * n) more
+    → rows_at (body (setup_of (text n done [] []))) (map word_row more)
+    ≡ Ok (body (setup_of (text n (done ++ more) [] [])))
 words_run n done [] fits low = ap (λ (x : List (ℕ × ℕ)). Ok (body (setup_of (text n x [] [])))) (sym (append-nil done))
 words_run n done (w ∷ more) fits low =
-    rw (word_again n done w fits.0 low.0) (words_run n (done ++ w ∷ []) more fits.1 low.1 ∙ ap (λ (x : List (ℕ × ℕ)). Ok (body (setup_of (text n x [] [])))) (append_assoc done (w ∷ []) more))
+    rw (word_again n done w fits.0 low.0)
+    (words_run n (done ++ w ∷ []) more fits.1 low.1
+    ∙ ap (λ (x : List (ℕ × ℕ)). Ok (body (setup_of (text n x [] [])))) (append_assoc done (w ∷ []) more))
 
-name_new : (w : List ℕ) (ts : List Table) → ((k : ℕ) (d : Table) → k < length ts → (get_or ts k d).name ≢ w) → found_name (map named ts) w ≡ None
+name_new :
+    (w : List ℕ) (ts : List Table) → ((k : ℕ) (d : Table) → k < length ts → (get_or ts k d).name ≢ w)
+    → found_name (map named ts) w ≡ None
 name_new w [] h = refl
 name_new w (t ∷ ts) h = go (bytes_eq w t.name) refl (name_new w ts (λ k d low. h (suc k) d (omega arith)))
   where
-    go : (b : Bool) → bytes_eq w t.name ≡ b → found_name (map named ts) w ≡ None → found_name (map named (t ∷ ts)) w ≡ None
+    go :
+        (b : Bool) → bytes_eq w t.name ≡ b → found_name (map named ts) w ≡ None
+        → found_name (map named (t ∷ ts)) w ≡ None
     go true e rest = absurd (h 0 t (omega arith) (sym ((bytes_eq-Decides w t.name).0 e)))
     go false e rest = rw (e, rest) refl
 
 -- one of the tables that stand, after those before it
-pub one_stands : (ts more : List Table) (t : TableText) → AreTables (ts ++ table_of t.name t.cells ∷ more) → TableFits t → CellsStand t → TableStands ts t
+pub one_stands :
+    (ts more : List Table) (t : TableText) → AreTables (ts ++ table_of t.name t.cells ∷ more) → TableFits t
+    → CellsStand t → TableStands ts t
 one_stands ts more t are fits cells =
     let whole = table_of t.name t.cells in
     record {
       fits = fits;
       cells = cells;
       few = omega (arith, are.few, length-append ts (whole ∷ more));
-      new = name_new t.name ts (λ k d low. differs k d low (are.names k (length ts) d low (omega (arith, length-append ts (whole ∷ more)))));
+      new =
+          name_new t.name ts
+          (λ k d low. differs k d low (are.names k (length ts) d low (omega (arith, length-append ts (whole ∷ more)))));
     }
   where
     at : (ts : List Table) (x d : Table) (more : List Table) → get_or (ts ++ x ∷ more) (length ts) d ≡ x
     at [] x d more = refl
     at (y ∷ ts) x d more = at ts x d more
 
-    differs : (k : ℕ) (d : Table) → k < length ts → (get_or (ts ++ table_of t.name t.cells ∷ more) k d).name ≢ (get_or (ts ++ table_of t.name t.cells ∷ more) (length ts) d).name → (get_or ts k d).name ≢ t.name
+    differs :
+        (k : ℕ) (d : Table) → k < length ts
+        → (get_or (ts ++ table_of t.name t.cells ∷ more) k d).name
+        ≢ (get_or (ts ++ table_of t.name t.cells ∷ more) (length ts) d).name → (get_or ts k d).name ≢ t.name
     differs k d low h same =
-        h (ap (λ (x : Table). x.name) (get_or_append_left ts (table_of t.name t.cells ∷ more) d k low) ∙ (same ∙ (sym (table_name t.name t.cells) ∙ ap (λ (x : Table). x.name) (sym (at ts (table_of t.name t.cells) d more)))))
+        h (ap (λ (x : Table). x.name) (get_or_append_left ts (table_of t.name t.cells ∷ more) d k low)
+        ∙ (same
+        ∙ (sym (table_name t.name t.cells)
+        ∙ ap (λ (x : Table). x.name) (sym (at ts (table_of t.name t.cells) d more)))))
 
-tables_run : (n : ℕ) (ws : List (ℕ × ℕ)) (done more : List TableText) → AllByRecursion TableFits more → AllByRecursion CellsStand more → AreTables (tables_of (done ++ more)) → rows_at (body (setup_of (text n ws done []))) (tables_rows more) ≡ Ok (body (setup_of (text n ws (done ++ more) [])))
-tables_run n ws done [] fits cells are = ap (λ (x : List TableText). Ok (body (setup_of (text n ws x [])))) (sym (append-nil done))
+tables_run :
+    (n : ℕ) (ws : List (ℕ × ℕ)) (done more : List TableText) → AllByRecursion TableFits more
+    → AllByRecursion CellsStand more → AreTables (tables_of (done ++ more))
+    → rows_at (body (setup_of (text n ws done []))) (tables_rows more)
+    ≡ Ok (body (setup_of (text n ws (done ++ more) [])))
+tables_run n ws done [] fits cells are =
+    ap (λ (x : List TableText). Ok (body (setup_of (text n ws x [])))) (sym (append-nil done))
 tables_run n ws done (t ∷ more) fits cells are =
     let parts = map-append (λ (t : TableText). table_of t.name t.cells) done (t ∷ more) in
     let stands = one_stands (tables_of done) (tables_of more) t (subst AreTables parts are) fits.0 cells.0 in
     let regroup = append_assoc done (t ∷ []) more in
     rows_append (body (setup_of (text n ws done []))) (table_rows t) (tables_rows more)
-    ∙ rw (table_again n ws done t stands) (tables_run n ws (done ++ t ∷ []) more fits.1 cells.1 (subst (λ (x : List TableText). AreTables (tables_of x)) (sym regroup) are) ∙ ap (λ (x : List TableText). Ok (body (setup_of (text n ws x [])))) regroup)
+    ∙ rw (table_again n ws done t stands)
+    (tables_run n ws (done ++ t ∷ []) more fits.1 cells.1
+    (subst (λ (x : List TableText). AreTables (tables_of x)) (sym regroup) are)
+    ∙ ap (λ (x : List TableText). Ok (body (setup_of (text n ws x [])))) regroup)
 
 -- without boards
-no_boards_run : (n : ℕ) (ws : List (ℕ × ℕ)) (ts : List TableText) → StandsSoFar (text n ws ts []) → Runs (text n ws ts [])
+no_boards_run :
+    (n : ℕ) (ws : List (ℕ × ℕ)) (ts : List TableText) → StandsSoFar (text n ws ts []) → Runs (text n ws ts [])
 no_boards_run n ws ts s =
     let lines = lines_of_draft (text n ws ts []) s.sound in
     let words = rows_append (body (setup_of (text n [] [] []))) (map word_row ws) (tables_rows ts ++ []) in
-    let tables = ap (λ (x : List Words). rows_at (body (setup_of (text n ws [] []))) x) (append-nil (tables_rows ts)) ∙ tables_run n ws [] ts s.fits.tables s.cells s.sound.tables in
+    let tables = ap (λ (x : List Words). rows_at (body (setup_of (text n ws [] []))) x) (append-nil (tables_rows ts))
+    ∙ tables_run n ws [] ts s.fits.tables s.cells s.sound.tables in
     rw (memory_again n lines.0 lines.1) (words ∙ rw (words_run n [] ws s.fits.words s.addresses) tables)
 
 abbrev lines_count : List BoardText → ℕ
@@ -232,44 +327,70 @@ count_push : (bs : List BoardText) (b : BoardText) → lines_count (bs ++ b ∷ 
 count_push [] b = omega arith
 count_push (x ∷ bs) b = omega (arith, count_push bs b)
 
-boards_run : (k n : ℕ) (ws : List (ℕ × ℕ)) (ts : List TableText) (bs : List BoardText) → lines_count bs ≤ k → StandsSoFar (text n ws ts bs) → Runs (text n ws ts bs)
+boards_run :
+    (k n : ℕ) (ws : List (ℕ × ℕ)) (ts : List TableText) (bs : List BoardText) → lines_count bs ≤ k
+    → StandsSoFar (text n ws ts bs) → Runs (text n ws ts bs)
 boards_run zero n ws ts [] small s = no_boards_run n ws ts s
 boards_run zero n ws ts (b ∷ bs) small s = absurd (omega arith)
 boards_run (suc k) n ws ts bs small s = go (empty_or_last bs) (λ front small s. boards_run k n ws ts front small s)
   where
-    one : (front : List BoardText) (b : BoardText) → (b.script ≡ []) ⊎ ((script : List Access) × (a : Access) × (b.script ≡ script ++ a ∷ [])) → lines_count (front ++ b ∷ []) ≤ suc k → StandsSoFar (text n ws ts (front ++ b ∷ []))
-        → ((front : List BoardText) → lines_count front ≤ k → StandsSoFar (text n ws ts front) → Runs (text n ws ts front)) → Runs (text n ws ts (front ++ b ∷ []))
+    one :
+        (front : List BoardText) (b : BoardText)
+        → (b.script ≡ []) ⊎ ((script : List Access) × (a : Access) × (b.script ≡ script ++ a ∷ []))
+        → lines_count (front ++ b ∷ []) ≤ suc k → StandsSoFar (text n ws ts (front ++ b ∷ []))
+        → ((front : List BoardText) → lines_count front ≤ k → StandsSoFar (text n ws ts front)
+        → Runs (text n ws ts front)) → Runs (text n ws ts (front ++ b ∷ []))
     one front b (inl none) small s ih =
         let before = before_board n ws ts front b none s in
         let rest = ih front (omega (arith, count_push front b)) before.0 in
         let row : board_rows b ≡ board_row b ∷ [] = ap (λ (x : List Access). board_row b ∷ map access_row x) none in
-        ap (λ (x : List Words). rows_at start x) (rows_board n ws ts front b ∙ ap (λ (x : List Words). open_rows (text n ws ts front) ++ x) row)
-        ∙ rows_push start (body (setup_of (text n ws ts front))) (body (setup_of (text n ws ts (front ++ b ∷ [])))) (open_rows (text n ws ts front)) (board_row b) rest (board_again n ws ts front b none s)
+        ap (λ (x : List Words). rows_at start x)
+        (rows_board n ws ts front b ∙ ap (λ (x : List Words). open_rows (text n ws ts front) ++ x) row)
+        ∙ rows_push start (body (setup_of (text n ws ts front))) (body (setup_of (text n ws ts (front ++ b ∷ []))))
+        (open_rows (text n ws ts front)) (board_row b) rest (board_again n ws ts front b none s)
     one front b (inr (script, a, e)) small s ih =
         let c : BoardText = record b { script = script } in
         let same : and_access c a ≡ b = ap (λ (x : List Access). record b { script = x }) (sym e) in
-        let stands : StandsSoFar (text n ws ts (front ++ and_access c a ∷ [])) = subst (λ (x : BoardText). StandsSoFar (text n ws ts (front ++ x ∷ []))) (sym same) s in
+        let stands : StandsSoFar (text n ws ts (front ++ and_access c a ∷ [])) =
+        subst (λ (x : BoardText). StandsSoFar (text n ws ts (front ++ x ∷ []))) (sym same) s in
         let before = before_access n ws ts front c a stands in
-        let long : length b.script ≡ length script + 1 = ap (λ (x : List Access). length x) e ∙ length-append script (a ∷ []) in
-        let rest = ih (front ++ c ∷ []) (let x = count_push front b in let y = count_push front c in omega arith) before.0 in
+        let long : length b.script ≡ length script + 1 =
+        ap (λ (x : List Access). length x) e ∙ length-append script (a ∷ []) in
+        let rest =
+        ih (front ++ c ∷ []) (let x = count_push front b in let y = count_push front c in omega arith) before.0 in
         let run = ap (λ (x : List Words). rows_at start x) (rows_access n ws ts front c a)
-        ∙ rows_push start (body (setup_of (text n ws ts (front ++ c ∷ [])))) (body (setup_of (text n ws ts (front ++ and_access c a ∷ [])))) (open_rows (text n ws ts (front ++ c ∷ []))) (access_row a) rest (access_again n ws ts front c a stands) in
+        ∙ rows_push start (body (setup_of (text n ws ts (front ++ c ∷ []))))
+        (body (setup_of (text n ws ts (front ++ and_access c a ∷ [])))) (open_rows (text n ws ts (front ++ c ∷ [])))
+        (access_row a) rest (access_again n ws ts front c a stands) in
         subst (λ (x : BoardText). Runs (text n ws ts (front ++ x ∷ []))) same run
 
-    go : (bs ≡ []) ⊎ ((front : List BoardText) × (b : BoardText) × (bs ≡ front ++ b ∷ [])) → ((front : List BoardText) → lines_count front ≤ k → StandsSoFar (text n ws ts front) → Runs (text n ws ts front)) → Runs (text n ws ts bs)
-    go (inl e) ih = subst (λ (x : List BoardText). Runs (text n ws ts x)) (sym e) (no_boards_run n ws ts (subst (λ (x : List BoardText). StandsSoFar (text n ws ts x)) e s))
+    go :
+        (bs ≡ []) ⊎ ((front : List BoardText) × (b : BoardText) × (bs ≡ front ++ b ∷ []))
+        → ((front : List BoardText) → lines_count front ≤ k → StandsSoFar (text n ws ts front)
+        → Runs (text n ws ts front)) → Runs (text n ws ts bs)
+    go (inl e) ih =
+        subst (λ (x : List BoardText). Runs (text n ws ts x)) (sym e)
+        (no_boards_run n ws ts (subst (λ (x : List BoardText). StandsSoFar (text n ws ts x)) e s))
     go (inr (front, b, e)) ih =
-        subst (λ (x : List BoardText). Runs (text n ws ts x)) (sym e) (one front b (empty_or_last b.script) (let h = ap lines_count e in omega arith) (subst (λ (x : List BoardText). StandsSoFar (text n ws ts x)) e s) ih)
+        subst (λ (x : List BoardText). Runs (text n ws ts x)) (sym e)
+        (one front b (empty_or_last b.script) (let h = ap lines_count e in omega arith)
+        (subst (λ (x : List BoardText). StandsSoFar (text n ws ts x)) e s) ih)
 
 -- The lines of a setup that stands so far are read as its value.
 pub so_far_runs : (s : SetupText) → StandsSoFar s → rows_at start (open_rows s) ≡ Ok (body (setup_of s))
 so_far_runs s h = boards_run (lines_count s.boards) s.lines s.words s.tables s.boards (omega arith) h
 
 -- So are those of a whole setup.
-pub setup_runs : (s : SetupText) → StandsSoFar s → 0 < length s.boards → rows_at start (setup_rows s) ≡ Ok (ended (setup_of s))
+pub setup_runs :
+    (s : SetupText) → StandsSoFar s → 0 < length s.boards → rows_at start (setup_rows s) ≡ Ok (ended (setup_of s))
 unfolding body_line
-setup_runs s h some = rows_push start (body (setup_of s)) (ended (setup_of s)) (open_rows s) end_row (so_far_runs s h) (ends s.boards some)
+setup_runs s h some =
+    rows_push start (body (setup_of s)) (ended (setup_of s)) (open_rows s) end_row (so_far_runs s h)
+    (ends s.boards some)
   where
-    ends : (bs : List BoardText) → 0 < length bs → line_at (body (setup_of (text s.lines s.words s.tables bs))) end_row ≡ Ok (ended (setup_of (text s.lines s.words s.tables bs)))
+    ends :
+        (bs : List BoardText) → 0 < length bs
+        → line_at (body (setup_of (text s.lines s.words s.tables bs))) end_row
+        ≡ Ok (ended (setup_of (text s.lines s.words s.tables bs)))
     ends [] some = absurd (omega arith)
     ends (b ∷ bs) some = refl

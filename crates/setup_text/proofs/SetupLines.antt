@@ -11,8 +11,8 @@ use Rattle.class_words.specs.Words.{local_event_word, local_event_of}
 use Rattle.class_words.proofs.WordLaws.{local_event_is}
 use Rattle.class_relation.specs.Tables.{Table, empty_table}
 use Rattle.table_check.specs.declared.boards.BoardSpec.{BoardSpec}
-use Rattle.table_check.specs.Setup.{Setup, access_count}
-use Rattle.table_check.specs.Setup as checked
+use Rattle.setup.specs.Setup.{Setup, access_count}
+use Rattle.setup.specs.Setup as checked
 use Rattle.table_text.specs.declared.fault.TableKind.{TableKind}
 use Rattle.table_text.specs.Reading.{◌>>=◌, table_line}
 use Rattle.table_text.specs.Spelling.{CellLine, cell_words, entered, all_entered, table_of, HasAlternative}
@@ -78,17 +78,22 @@ grows_by p l k m e g = subst (λ (x : Words). Grows p x m) (sym e) g
 first_takes : (l : Words) (m : Mode) → first_line l ≡ Ok m → Grows begin l m
 unfolding first_line
 first_takes l m e =
-    let a = binds (this_word (codes "memory") l) (λ after. memory_line after >>= λ lines. Ok (body (empty_setup lines))) m e in
+    let a = binds (this_word (codes "memory") l) (λ after. memory_line after >>= λ lines. Ok (body (empty_setup lines)))
+    m e in
     let b = binds (memory_line a.value) (λ lines. Ok (body (empty_setup lines))) m a.then in
     let n = memory_read a.value b.value b.here in
-    grows_by begin (memory_row b.value) l m (word_read (codes "memory") l a.value a.here ∙ ap (λ (u : Words). codes "memory" ∷ u) n.0) (record {
+    grows_by begin (memory_row b.value) l m
+    (word_read (codes "memory") l a.value a.here ∙ ap (λ (u : Words). codes "memory" ∷ u) n.0) (record {
       next = so_far (text b.value [] [] []);
       good = stands_memory b.value n.1 n.2;
       mode = ok_same (body (empty_setup b.value)) m b.then;
       rows = refl;
     })
 
-word_takes : (n : ℕ) (ws : List (ℕ × ℕ)) (ts : List TableText) (bs : List BoardText) (l : Words) (m : Mode) → StandsSoFar (text n ws ts bs) → word_line (setup_of (text n ws ts bs)) l ≡ Ok m → Grows (so_far (text n ws ts bs)) (codes "word" ∷ l) m
+word_takes :
+    (n : ℕ) (ws : List (ℕ × ℕ)) (ts : List TableText) (bs : List BoardText) (l : Words) (m : Mode)
+    → StandsSoFar (text n ws ts bs) → word_line (setup_of (text n ws ts bs)) l ≡ Ok m
+    → Grows (so_far (text n ws ts bs)) (codes "word" ∷ l) m
 word_takes n ws (t ∷ ts) bs l m s e = absurd cc
 word_takes n ws [] (b ∷ bs) l m s e = absurd cc
 word_takes n ws [] [] l m s e =
@@ -96,32 +101,48 @@ word_takes n ws [] [] l m s e =
     let a = binds (value_line (length setup.memory) l) (λ a. Ok (body (with_word setup a.0 a.1))) m e in
     let r = value_line_read (length setup.memory) l a.value a.here in
     let low : a.value.0 < length (memory_of n ws) = r.1 in
-    grows_by (so_far (text n ws [] [])) (word_row a.value) (codes "word" ∷ l) m (ap (λ (u : Words). codes "word" ∷ u) r.0) (record {
+    grows_by (so_far (text n ws [] [])) (word_row a.value) (codes "word" ∷ l) m
+    (ap (λ (u : Words). codes "word" ∷ u) r.0) (record {
       next = so_far (text n (ws ++ a.value ∷ []) [] []);
       good = stands_word n ws a.value s (r.2, r.3) (omega (arith, memory_long n ws));
-      mode = ap (λ (x : List ℕ). body (record { memory = x; tables = []; boards = []; scripts = [] })) (set_push _ ws a.value) ∙ ok_same (body (with_word setup a.value.0 a.value.1)) m a.then;
+      mode =
+          ap (λ (x : List ℕ). body (record { memory = x; tables = []; boards = []; scripts = [] }))
+          (set_push _ ws a.value) ∙ ok_same (body (with_word setup a.value.0 a.value.1)) m a.then;
       rows = rows_word n ws a.value;
     })
 
-head_takes : (n : ℕ) (ws : List (ℕ × ℕ)) (ts : List TableText) (bs : List BoardText) (l : Words) (m : Mode) → StandsSoFar (text n ws ts bs) → table_head (setup_of (text n ws ts bs)) l ≡ Ok m → Grows (so_far (text n ws ts bs)) (codes "table" ∷ l) m
+head_takes :
+    (n : ℕ) (ws : List (ℕ × ℕ)) (ts : List TableText) (bs : List BoardText) (l : Words) (m : Mode)
+    → StandsSoFar (text n ws ts bs) → table_head (setup_of (text n ws ts bs)) l ≡ Ok m
+    → Grows (so_far (text n ws ts bs)) (codes "table" ∷ l) m
 head_takes n ws ts (b ∷ bs) l m s e = absurd cc
 head_takes n ws ts [] l m s e =
     let setup = setup_of (text n ws ts []) in
     let a = binds (head_line setup.tables l) (λ name. Ok (in_table setup (empty_table name))) m e in
     let r = head_read setup.tables l a.value a.here in
-    grows_by (so_far (text n ws ts [])) (head_row a.value) (codes "table" ∷ l) m (ap (λ (u : Words). codes "table" ∷ u) r.words) (record {
+    grows_by (so_far (text n ws ts [])) (head_row a.value) (codes "table" ∷ l) m
+    (ap (λ (u : Words). codes "table" ∷ u) r.words) (record {
       next = opened (text n ws ts []) (table_text a.value []);
-      good = record { so_far = s; boards = refl; table = record { fits = record { name = r.named_; cells = tt }; cells = tt; few = r.few; new = r.new } };
+      good =
+          record {
+            so_far = s;
+            boards = refl;
+            table = record { fits = record { name = r.named_; cells = tt }; cells = tt; few = r.few; new = r.new };
+          };
       mode = ok_same (in_table setup (empty_table a.value)) m a.then;
       rows = refl;
     })
 
 -- the place of a name that was found
-pub found_place : (w : List ℕ) (ts : List Table) (p : ℕ × Bool) → found_name (map named ts) w ≡ Some p → p.0 ≡ place_of ts w
+pub found_place :
+    (w : List ℕ) (ts : List Table) (p : ℕ × Bool) → found_name (map named ts) w ≡ Some p → p.0 ≡ place_of ts w
 found_place w [] p e = absurd cc
-found_place w (t ∷ ts) p e = go (bytes_eq w t.name) refl (found_name (map named ts) w) refl (λ q h. found_place w ts q h)
+found_place w (t ∷ ts) p e =
+    go (bytes_eq w t.name) refl (found_name (map named ts) w) refl (λ q h. found_place w ts q h)
   where
-    go : (b : Bool) → bytes_eq w t.name ≡ b → (r : Option (ℕ × Bool)) → found_name (map named ts) w ≡ r → ((q : ℕ × Bool) → found_name (map named ts) w ≡ Some q → q.0 ≡ place_of ts w) → p.0 ≡ place_of (t ∷ ts) w
+    go :
+        (b : Bool) → bytes_eq w t.name ≡ b → (r : Option (ℕ × Bool)) → found_name (map named ts) w ≡ r
+        → ((q : ℕ × Bool) → found_name (map named ts) w ≡ Some q → q.0 ≡ place_of ts w) → p.0 ≡ place_of (t ∷ ts) w
     go true h r k rest =
         let both : ◌≡◌ {A = Option (ℕ × Bool)} (Some (0, stays_invalid t)) (Some p) = rw h at e in
         let same : (0, stays_invalid t) ≡ p = cc in
@@ -132,114 +153,238 @@ found_place w (t ∷ ts) p e = go (bytes_eq w t.name) refl (found_name (map name
         let same : further q ≡ p = cc in
         rw h (sym (ap (λ (x : ℕ × Bool). x.0) same) ∙ ap (λ (x : ℕ). x + 1) (rest q k))
 
-board_takes : (n : ℕ) (ws : List (ℕ × ℕ)) (ts : List TableText) (bs : List BoardText) (l : Words) (m : Mode) → StandsSoFar (text n ws ts bs) → board_added (setup_of (text n ws ts bs)) l ≡ Ok m → Grows (so_far (text n ws ts bs)) (codes "board" ∷ l) m
+board_takes :
+    (n : ℕ) (ws : List (ℕ × ℕ)) (ts : List TableText) (bs : List BoardText) (l : Words) (m : Mode)
+    → StandsSoFar (text n ws ts bs) → board_added (setup_of (text n ws ts bs)) l ≡ Ok m
+    → Grows (so_far (text n ws ts bs)) (codes "board" ∷ l) m
 unfolding board_line
 board_takes n ws ts bs l m s e = room (ltb (length (setup_of (text n ws ts bs)).boards) 16) refl e
   where
-    room : (b : Bool) → ltb (length (setup_of (text n ws ts bs)).boards) 16 ≡ b → cond b (board_line (setup_of (text n ws ts bs)) l >>= λ spec. Ok (body (with_board (setup_of (text n ws ts bs)) spec))) (Err (Limit Boards 17)) ≡ Ok m → Grows (so_far (text n ws ts bs)) (codes "board" ∷ l) m
+    room :
+        (b : Bool) → ltb (length (setup_of (text n ws ts bs)).boards) 16 ≡ b
+        → cond b (board_line (setup_of (text n ws ts bs)) l >>=
+        λ spec. Ok (body (with_board (setup_of (text n ws ts bs)) spec))) (Err (Limit Boards 17)) ≡ Ok m
+        → Grows (so_far (text n ws ts bs)) (codes "board" ∷ l) m
     room false h e = absurd cc
     room true h e =
-        let all = binds (board_line (setup_of (text n ws ts bs)) l) (λ spec. Ok (body (with_board (setup_of (text n ws ts bs)) spec))) m e in
-        let a = binds (board_front (setup_of (text n ws ts bs)).boards l) (λ k. board_table (setup_of (text n ws ts bs)).tables k.1 >>= λ t. shape_at t.1 t.2 >>= λ shape. board_back shape.1 >>= λ choose. Ok (board_spec k.0 t.0 shape.0 choose)) all.value all.here in
-        let b = binds (board_table (setup_of (text n ws ts bs)).tables a.value.1) (λ t. shape_at t.1 t.2 >>= λ shape. board_back shape.1 >>= λ choose. Ok (board_spec a.value.0 t.0 shape.0 choose)) all.value a.then in
-        let c = binds (shape_at b.value.1 b.value.2) (λ shape. board_back shape.1 >>= λ choose. Ok (board_spec a.value.0 b.value.0 shape.0 choose)) all.value b.then in
-        let d = binds (board_back c.value.1) (λ choose. Ok (board_spec a.value.0 b.value.0 c.value.0 choose)) all.value c.then in
+        let all = binds (board_line (setup_of (text n ws ts bs)) l)
+        (λ spec. Ok (body (with_board (setup_of (text n ws ts bs)) spec))) m e in
+        let a = binds (board_front (setup_of (text n ws ts bs)).boards l)
+        (λ k.
+        board_table (setup_of (text n ws ts bs)).tables k.1 >>=
+        λ t.
+        shape_at t.1 t.2 >>=
+        λ shape. board_back shape.1 >>= λ choose. Ok (board_spec k.0 t.0 shape.0 choose)) all.value
+        all.here in
+        let b = binds (board_table (setup_of (text n ws ts bs)).tables a.value.1)
+        (λ t.
+        shape_at t.1 t.2 >>=
+        λ shape. board_back shape.1 >>= λ choose. Ok (board_spec a.value.0 t.0 shape.0 choose)) all.value
+        a.then in
+        let c = binds (shape_at b.value.1 b.value.2)
+        (λ shape. board_back shape.1 >>= λ choose. Ok (board_spec a.value.0 b.value.0 shape.0 choose)) all.value
+        b.then in
+        let d = binds (board_back c.value.1) (λ choose. Ok (board_spec a.value.0 b.value.0 c.value.0 choose)) all.value
+        c.then in
         let f = front_read (setup_of (text n ws ts bs)).boards l a.value a.here in
         let t = table_read (setup_of (text n ws ts bs)).tables a.value.1 b.value b.here in
         let shape = shape_read b.value.1 b.value.2 c.value c.here in
         let choose = back_read c.value.1 d.value d.here in
         let count : length (setup_of (text n ws ts bs)).boards ≡ length bs = length-map bs (board_of (tables_of ts)) in
-        let few : length (setup_of (text n ws ts bs)).boards < 16 = ltb-true (length (setup_of (text n ws ts bs)).boards) 16 h in
+        let few : length (setup_of (text n ws ts bs)).boards < 16 =
+        ltb-true (length (setup_of (text n ws ts bs)).boards) 16 h in
         let known = found_known t.name (setup_of (text n ws ts bs)).tables (b.value.0, b.value.1) t.found in
-        let place : b.value.0 ≡ place_of (tables_of ts) t.name = found_place t.name (setup_of (text n ws ts bs)).tables (b.value.0, b.value.1) t.found in
-        let board : BoardText = record { place = length bs + 1; number = a.value.0; table = t.name; shape = c.value.0; choose = d.value; script = [] } in
-        let spec : board_spec a.value.0 b.value.0 c.value.0 d.value ≡ spec_of ts board = ap (λ (x : ℕ). board_spec a.value.0 x c.value.0 d.value) place in
+        let place : b.value.0 ≡ place_of (tables_of ts) t.name =
+        found_place t.name (setup_of (text n ws ts bs)).tables (b.value.0, b.value.1) t.found in
+        let board : BoardText =
+        record {
+          place = length bs + 1;
+          number = a.value.0;
+          table = t.name;
+          shape = c.value.0;
+          choose = d.value;
+          script = [];
+        } in
+        let spec : board_spec a.value.0 b.value.0 c.value.0 d.value ≡ spec_of ts board =
+        ap (λ (x : ℕ). board_spec a.value.0 x c.value.0 d.value) place in
         let words : codes "board" ∷ l ≡ board_row board =
-        ap (λ (u : Words). codes "board" ∷ u) (f.words ∙ (ap (λ (x : ℕ). decimal (x + 1) ∷ codes "number" ∷ decimal a.value.0 ∷ a.value.1) count
-        ∙ ap (λ (u : Words). decimal (length bs + 1) ∷ codes "number" ∷ decimal a.value.0 ∷ u) (t.words ∙ ap (λ (u : Words). codes "table" ∷ t.name ∷ u) (shape.0 ∙ ap (λ (u : Words). shape_words c.value.0 ++ u) choose.0)))) in
-        let fits : checked.BoardFits (setup_of (text n ws ts bs)) (spec_of ts board) = subst (checked.BoardFits (setup_of (text n ws ts bs))) spec (board_fits (setup_of (text n ws ts bs)) a.value.0 (b.value.0, b.value.1) c.value.0 d.value f.low f.high known shape.2) in
+        ap (λ (u : Words). codes "board" ∷ u)
+        (f.words ∙ (ap (λ (x : ℕ). decimal (x + 1) ∷ codes "number" ∷ decimal a.value.0 ∷ a.value.1) count
+        ∙ ap (λ (u : Words). decimal (length bs + 1) ∷ codes "number" ∷ decimal a.value.0 ∷ u)
+        (t.words
+        ∙ ap (λ (u : Words). codes "table" ∷ t.name ∷ u)
+        (shape.0 ∙ ap (λ (u : Words). shape_words c.value.0 ++ u) choose.0)))) in
+        let fits : checked.BoardFits (setup_of (text n ws ts bs)) (spec_of ts board) =
+        subst (checked.BoardFits (setup_of (text n ws ts bs))) spec
+        (board_fits (setup_of (text n ws ts bs)) a.value.0 (b.value.0, b.value.1) c.value.0 d.value f.low f.high
+        known shape.2) in
         grows_by (so_far (text n ws ts bs)) (board_row board) (codes "board" ∷ l) m words (record {
           next = so_far (text n ws ts (bs ++ board ∷ []));
-          good = stands_board n ws ts bs board s refl (record { place = omega arith; number = (f.low, f.high); table = t.named_; shape = shape.1; choose = choose.1; script = tt }) refl (omega arith) fits f.new;
-          mode = ap (λ (x : Setup). body x) (setup_board n ws ts bs board refl) ∙ (ap (λ (x : BoardSpec). body (with_board (setup_of (text n ws ts bs)) x)) (sym spec ∙ ok_same (board_spec a.value.0 b.value.0 c.value.0 d.value) all.value d.then) ∙ ok_same (body (with_board (setup_of (text n ws ts bs)) all.value)) m all.then);
+          good =
+              stands_board n ws ts bs board s refl
+              (record {
+                place = omega arith;
+                number = (f.low, f.high);
+                table = t.named_;
+                shape = shape.1;
+                choose = choose.1;
+                script = tt;
+              }) refl (omega arith) fits f.new;
+          mode =
+              ap (λ (x : Setup). body x) (setup_board n ws ts bs board refl)
+              ∙ (ap (λ (x : BoardSpec). body (with_board (setup_of (text n ws ts bs)) x))
+              (sym spec ∙ ok_same (board_spec a.value.0 b.value.0 c.value.0 d.value) all.value d.then)
+              ∙ ok_same (body (with_board (setup_of (text n ws ts bs)) all.value)) m all.then);
           rows = rows_board n ws ts bs board;
         })
 
-access_takes : (n : ℕ) (ws : List (ℕ × ℕ)) (ts : List TableText) (bs : List BoardText) (event : LocalEvent) (l : Words) (m : Mode) → StandsSoFar (text n ws ts bs) → access_read (setup_of (text n ws ts bs)) event l ≡ Ok m → Grows (so_far (text n ws ts bs)) (local_event_word event ∷ l) m
+access_takes :
+    (n : ℕ) (ws : List (ℕ × ℕ)) (ts : List TableText) (bs : List BoardText) (event : LocalEvent) (l : Words) (m : Mode)
+    → StandsSoFar (text n ws ts bs) → access_read (setup_of (text n ws ts bs)) event l ≡ Ok m
+    → Grows (so_far (text n ws ts bs)) (local_event_word event ∷ l) m
 access_takes n ws ts bs event l m s e = go (empty_or_last bs)
   where
-    go : (bs ≡ []) ⊎ ((front : List BoardText) × (b : BoardText) × (bs ≡ front ++ b ∷ [])) → Grows (so_far (text n ws ts bs)) (local_event_word event ∷ l) m
+    go :
+        (bs ≡ []) ⊎ ((front : List BoardText) × (b : BoardText) × (bs ≡ front ++ b ∷ []))
+        → Grows (so_far (text n ws ts bs)) (local_event_word event ∷ l) m
     go (inl none) =
-        let none_there : ◌≡◌ {A = Result Mode SetupKind} (Err UnknownWord) (Ok m) = subst (λ (x : List BoardText). access_read (setup_of (text n ws ts x)) event l ≡ Ok m) none e in
+        let none_there : ◌≡◌ {A = Result Mode SetupKind} (Err UnknownWord) (Ok m) =
+        subst (λ (x : List BoardText). access_read (setup_of (text n ws ts x)) event l ≡ Ok m) none e in
         absurd cc
-    go (inr (front, b, is)) = subst (λ (x : List BoardText). Grows (so_far (text n ws ts x)) (local_event_word event ∷ l) m) (sym is) (there (subst (λ (x : List BoardText). StandsSoFar (text n ws ts x)) is s) (some front b (subst (λ (x : List BoardText). access_read (setup_of (text n ws ts x)) event l ≡ Ok m) is e)))
+    go (inr (front, b, is)) =
+        subst (λ (x : List BoardText). Grows (so_far (text n ws ts x)) (local_event_word event ∷ l) m) (sym is)
+        (there (subst (λ (x : List BoardText). StandsSoFar (text n ws ts x)) is s)
+        (some front b (subst (λ (x : List BoardText). access_read (setup_of (text n ws ts x)) event l ≡ Ok m) is e)))
       where
-        some : (front : List BoardText) (b : BoardText) → access_read (setup_of (text n ws ts (front ++ b ∷ []))) event l ≡ Ok m → cond (ltb (access_count (setup_of (text n ws ts (front ++ b ∷ [])))) 100000) (access_line (length (setup_of (text n ws ts (front ++ b ∷ []))).memory) event l >>= λ access. Ok (body (with_access (setup_of (text n ws ts (front ++ b ∷ []))) access))) (Err (Limit Accesses 100001)) ≡ Ok m
+        some :
+            (front : List BoardText) (b : BoardText)
+            → access_read (setup_of (text n ws ts (front ++ b ∷ []))) event l ≡ Ok m
+            → cond (ltb (access_count (setup_of (text n ws ts (front ++ b ∷ [])))) 100000)
+            (access_line (length (setup_of (text n ws ts (front ++ b ∷ []))).memory) event l >>=
+            λ access. Ok (body (with_access (setup_of (text n ws ts (front ++ b ∷ []))) access)))
+            (Err (Limit Accesses 100001)) ≡ Ok m
         some [] b e = e
         some (x ∷ front) b e = e
 
-        there : StandsSoFar (text n ws ts (front ++ b ∷ [])) → cond (ltb (access_count (setup_of (text n ws ts (front ++ b ∷ [])))) 100000) (access_line (length (setup_of (text n ws ts (front ++ b ∷ []))).memory) event l >>= λ access. Ok (body (with_access (setup_of (text n ws ts (front ++ b ∷ []))) access))) (Err (Limit Accesses 100001)) ≡ Ok m → Grows (so_far (text n ws ts (front ++ b ∷ []))) (local_event_word event ∷ l) m
+        there :
+            StandsSoFar (text n ws ts (front ++ b ∷ []))
+            → cond (ltb (access_count (setup_of (text n ws ts (front ++ b ∷ [])))) 100000)
+            (access_line (length (setup_of (text n ws ts (front ++ b ∷ []))).memory) event l >>=
+            λ access. Ok (body (with_access (setup_of (text n ws ts (front ++ b ∷ []))) access)))
+            (Err (Limit Accesses 100001)) ≡ Ok m
+            → Grows (so_far (text n ws ts (front ++ b ∷ []))) (local_event_word event ∷ l) m
         there s e = room (ltb (access_count (setup_of (text n ws ts (front ++ b ∷ [])))) 100000) refl e
           where
-            room : (x : Bool) → ltb (access_count (setup_of (text n ws ts (front ++ b ∷ [])))) 100000 ≡ x → cond x (access_line (length (setup_of (text n ws ts (front ++ b ∷ []))).memory) event l >>= λ access. Ok (body (with_access (setup_of (text n ws ts (front ++ b ∷ []))) access))) (Err (Limit Accesses 100001)) ≡ Ok m → Grows (so_far (text n ws ts (front ++ b ∷ []))) (local_event_word event ∷ l) m
+            room :
+                (x : Bool) → ltb (access_count (setup_of (text n ws ts (front ++ b ∷ [])))) 100000 ≡ x
+                → cond x (access_line (length (setup_of (text n ws ts (front ++ b ∷ []))).memory) event l >>=
+                λ access. Ok (body (with_access (setup_of (text n ws ts (front ++ b ∷ []))) access)))
+                (Err (Limit Accesses 100001)) ≡ Ok m
+                → Grows (so_far (text n ws ts (front ++ b ∷ []))) (local_event_word event ∷ l) m
             room false h e = absurd cc
             room true h e =
-                let a = binds (access_line (length (setup_of (text n ws ts (front ++ b ∷ []))).memory) event l) (λ access. Ok (body (with_access (setup_of (text n ws ts (front ++ b ∷ []))) access))) m e in
-                let r = access_words (length (setup_of (text n ws ts (front ++ b ∷ []))).memory) event l a.value a.here in
-                grows_by (so_far (text n ws ts (front ++ b ∷ []))) (access_row a.value) (local_event_word event ∷ l) m r.words (record {
+                let a = binds (access_line (length (setup_of (text n ws ts (front ++ b ∷ []))).memory) event l)
+                (λ access. Ok (body (with_access (setup_of (text n ws ts (front ++ b ∷ []))) access))) m e in
+                let r =
+                access_words (length (setup_of (text n ws ts (front ++ b ∷ []))).memory) event l a.value a.here in
+                grows_by (so_far (text n ws ts (front ++ b ∷ []))) (access_row a.value) (local_event_word event ∷ l)
+                m r.words (record {
                   next = so_far (text n ws ts (front ++ and_access b a.value ∷ []));
-                  good = stands_access n ws ts front b a.value s r.fits (ltb-true (access_count (setup_of (text n ws ts (front ++ b ∷ [])))) 100000 h) r.within;
-                  mode = ap (λ (x : Setup). body x) (setup_access n ws ts front b a.value) ∙ ok_same (body (with_access (setup_of (text n ws ts (front ++ b ∷ []))) a.value)) m a.then;
+                  good =
+                      stands_access n ws ts front b a.value s r.fits
+                      (ltb-true (access_count (setup_of (text n ws ts (front ++ b ∷ [])))) 100000 h) r.within;
+                  mode =
+                      ap (λ (x : Setup). body x) (setup_access n ws ts front b a.value)
+                      ∙ ok_same (body (with_access (setup_of (text n ws ts (front ++ b ∷ []))) a.value)) m a.then;
                   rows = rows_access n ws ts front b a.value;
                 })
 
-end_takes : (n : ℕ) (ws : List (ℕ × ℕ)) (ts : List TableText) (bs : List BoardText) (l : Words) (m : Mode) → StandsSoFar (text n ws ts bs) → end_line (setup_of (text n ws ts bs)) l ≡ Ok m → Grows (so_far (text n ws ts bs)) (codes "end" ∷ l) m
+end_takes :
+    (n : ℕ) (ws : List (ℕ × ℕ)) (ts : List TableText) (bs : List BoardText) (l : Words) (m : Mode)
+    → StandsSoFar (text n ws ts bs) → end_line (setup_of (text n ws ts bs)) l ≡ Ok m
+    → Grows (so_far (text n ws ts bs)) (codes "end" ∷ l) m
 end_takes n ws ts [] l m s e = absurd cc
 end_takes n ws ts (b ∷ bs) l m s e =
     let setup = setup_of (text n ws ts (b ∷ bs)) in
     let a = binds (line_ends l) (λ _. Ok (ended setup)) m e in
-    grows_by (so_far (text n ws ts (b ∷ bs))) end_row (codes "end" ∷ l) m (ap (λ (u : Words). codes "end" ∷ u) (nothing_read l a.value a.here)) (record {
+    grows_by (so_far (text n ws ts (b ∷ bs))) end_row (codes "end" ∷ l) m
+    (ap (λ (u : Words). codes "end" ∷ u) (nothing_read l a.value a.here)) (record {
       next = closed (text n ws ts (b ∷ bs));
       good = (s, omega arith);
       mode = ok_same (ended setup) m a.then;
       rows = refl;
     })
 
-body_takes : (n : ℕ) (ws : List (ℕ × ℕ)) (ts : List TableText) (bs : List BoardText) (l : Words) (m : Mode) → StandsSoFar (text n ws ts bs) → body_line (setup_of (text n ws ts bs)) l ≡ Ok m → Grows (so_far (text n ws ts bs)) l m
+body_takes :
+    (n : ℕ) (ws : List (ℕ × ℕ)) (ts : List TableText) (bs : List BoardText) (l : Words) (m : Mode)
+    → StandsSoFar (text n ws ts bs) → body_line (setup_of (text n ws ts bs)) l ≡ Ok m
+    → Grows (so_far (text n ws ts bs)) l m
 unfolding body_line
 body_takes n ws ts bs [] m s e = absurd cc
 body_takes n ws ts bs (w ∷ l) m s e = first_test (bytes_eq w (codes "word")) refl e
   where
-    by_word : (v : List ℕ) → bytes_eq w v ≡ true → Grows (so_far (text n ws ts bs)) (v ∷ l) m → Grows (so_far (text n ws ts bs)) (w ∷ l) m
+    by_word :
+        (v : List ℕ) → bytes_eq w v ≡ true → Grows (so_far (text n ws ts bs)) (v ∷ l) m
+        → Grows (so_far (text n ws ts bs)) (w ∷ l) m
     by_word v h g = grows_by (so_far (text n ws ts bs)) (v ∷ l) (w ∷ l) m (ap (λ (u : List ℕ). u ∷ l) (is_word w v h)) g
 
-    last_test : (o : Option LocalEvent) → local_event_of w ≡ o → maybe_access (setup_of (text n ws ts bs)) o l ≡ Ok m → Grows (so_far (text n ws ts bs)) (w ∷ l) m
+    last_test :
+        (o : Option LocalEvent) → local_event_of w ≡ o → maybe_access (setup_of (text n ws ts bs)) o l ≡ Ok m
+        → Grows (so_far (text n ws ts bs)) (w ∷ l) m
     last_test None h e = absurd cc
-    last_test (Some event) h e = grows_by (so_far (text n ws ts bs)) (local_event_word event ∷ l) (w ∷ l) m (ap (λ (u : List ℕ). u ∷ l) (local_event_is w event h)) (access_takes n ws ts bs event l m s e)
+    last_test (Some event) h e =
+        grows_by (so_far (text n ws ts bs)) (local_event_word event ∷ l) (w ∷ l) m
+        (ap (λ (u : List ℕ). u ∷ l) (local_event_is w event h)) (access_takes n ws ts bs event l m s e)
 
-    fourth_test : (b : Bool) → bytes_eq w (codes "end") ≡ b → cond b (end_line (setup_of (text n ws ts bs)) l) (maybe_access (setup_of (text n ws ts bs)) (local_event_of w) l) ≡ Ok m → Grows (so_far (text n ws ts bs)) (w ∷ l) m
+    fourth_test :
+        (b : Bool) → bytes_eq w (codes "end") ≡ b
+        → cond b (end_line (setup_of (text n ws ts bs)) l)
+        (maybe_access (setup_of (text n ws ts bs)) (local_event_of w) l) ≡ Ok m
+        → Grows (so_far (text n ws ts bs)) (w ∷ l) m
     fourth_test true h e = by_word (codes "end") h (end_takes n ws ts bs l m s e)
     fourth_test false h e = last_test (local_event_of w) refl e
 
-    third_test : (b : Bool) → bytes_eq w (codes "board") ≡ b → cond b (board_added (setup_of (text n ws ts bs)) l) (cond (bytes_eq w (codes "end")) (end_line (setup_of (text n ws ts bs)) l) (maybe_access (setup_of (text n ws ts bs)) (local_event_of w) l)) ≡ Ok m → Grows (so_far (text n ws ts bs)) (w ∷ l) m
+    third_test :
+        (b : Bool) → bytes_eq w (codes "board") ≡ b
+        → cond b (board_added (setup_of (text n ws ts bs)) l)
+        (cond (bytes_eq w (codes "end")) (end_line (setup_of (text n ws ts bs)) l)
+        (maybe_access (setup_of (text n ws ts bs)) (local_event_of w) l)) ≡ Ok m
+        → Grows (so_far (text n ws ts bs)) (w ∷ l) m
     third_test true h e = by_word (codes "board") h (board_takes n ws ts bs l m s e)
     third_test false h e = fourth_test (bytes_eq w (codes "end")) refl e
 
-    second_test : (b : Bool) → bytes_eq w (codes "table") ≡ b → cond b (table_head (setup_of (text n ws ts bs)) l) (cond (bytes_eq w (codes "board")) (board_added (setup_of (text n ws ts bs)) l) (cond (bytes_eq w (codes "end")) (end_line (setup_of (text n ws ts bs)) l) (maybe_access (setup_of (text n ws ts bs)) (local_event_of w) l))) ≡ Ok m → Grows (so_far (text n ws ts bs)) (w ∷ l) m
+    second_test :
+        (b : Bool) → bytes_eq w (codes "table") ≡ b
+        → cond b (table_head (setup_of (text n ws ts bs)) l)
+        (cond (bytes_eq w (codes "board")) (board_added (setup_of (text n ws ts bs)) l)
+        (cond (bytes_eq w (codes "end")) (end_line (setup_of (text n ws ts bs)) l)
+        (maybe_access (setup_of (text n ws ts bs)) (local_event_of w) l))) ≡ Ok m
+        → Grows (so_far (text n ws ts bs)) (w ∷ l) m
     second_test true h e = by_word (codes "table") h (head_takes n ws ts bs l m s e)
     second_test false h e = third_test (bytes_eq w (codes "board")) refl e
 
-    first_test : (b : Bool) → bytes_eq w (codes "word") ≡ b → cond b (word_line (setup_of (text n ws ts bs)) l) (cond (bytes_eq w (codes "table")) (table_head (setup_of (text n ws ts bs)) l) (cond (bytes_eq w (codes "board")) (board_added (setup_of (text n ws ts bs)) l) (cond (bytes_eq w (codes "end")) (end_line (setup_of (text n ws ts bs)) l) (maybe_access (setup_of (text n ws ts bs)) (local_event_of w) l)))) ≡ Ok m → Grows (so_far (text n ws ts bs)) (w ∷ l) m
+    first_test :
+        (b : Bool) → bytes_eq w (codes "word") ≡ b
+        → cond b (word_line (setup_of (text n ws ts bs)) l)
+        (cond (bytes_eq w (codes "table")) (table_head (setup_of (text n ws ts bs)) l)
+        (cond (bytes_eq w (codes "board")) (board_added (setup_of (text n ws ts bs)) l)
+        (cond (bytes_eq w (codes "end")) (end_line (setup_of (text n ws ts bs)) l)
+        (maybe_access (setup_of (text n ws ts bs)) (local_event_of w) l)))) ≡ Ok m
+        → Grows (so_far (text n ws ts bs)) (w ∷ l) m
     first_test true h e = by_word (codes "word") h (word_takes n ws ts bs l m s e)
     first_test false h e = second_test (bytes_eq w (codes "table")) refl e
 
 -- ---- the lines of a table
 
-pub entered_push : (t : Table) (cells : List CellLine) (c : CellLine) → all_entered t (cells ++ c ∷ []) ≡ entered (all_entered t cells) c
+pub entered_push :
+    (t : Table) (cells : List CellLine) (c : CellLine)
+    → all_entered t (cells ++ c ∷ []) ≡ entered (all_entered t cells) c
 entered_push t [] c = refl
 entered_push t (d ∷ cells) c = entered_push (entered t d) cells c
 
-stand_push : (t : Table) (cells : List CellLine) (c : CellLine) → AllStand t cells → CanStand (all_entered t cells) c → AllStand t (cells ++ c ∷ [])
+stand_push :
+    (t : Table) (cells : List CellLine) (c : CellLine) → AllStand t cells → CanStand (all_entered t cells) c
+    → AllStand t (cells ++ c ∷ [])
 stand_push t [] c h can = (can, tt)
 stand_push t (d ∷ cells) c h can = (h.0, stand_push (entered t d) cells c h.1 can)
 
@@ -251,7 +396,10 @@ pub table_whole : (t : TableText) → HasAllCells (table_of t.name t.cells)
 table_whole t = whole_cells (empty_table t.name) t.cells (empty_whole t.name)
 
 -- an open table with one more cell line
-pub cell_stands : (tables : List Table) (name : List ℕ) (cells : List CellLine) (c : CellLine) → TableStands tables (table_text name cells) → HasAlternative c → CanStand (table_of name cells) c → TableStands tables (table_text name (cells ++ c ∷ []))
+pub cell_stands :
+    (tables : List Table) (name : List ℕ) (cells : List CellLine) (c : CellLine)
+    → TableStands tables (table_text name cells) → HasAlternative c → CanStand (table_of name cells) c
+    → TableStands tables (table_text name (cells ++ c ∷ []))
 cell_stands tables name cells c h some can = record {
   fits = record { name = h.fits.name; cells = each_push HasAlternative cells c h.fits.cells some };
   cells = stand_push (empty_table name) cells c h.cells can;
@@ -259,35 +407,62 @@ cell_stands tables name cells c h some can = record {
   new = h.new;
 }
 
-rows_close : (before : List Words) (t : TableText) → before ++ table_rows t ≡ (before ++ open_table_rows t) ++ end_row ∷ []
+rows_close :
+    (before : List Words) (t : TableText) → before ++ table_rows t ≡ (before ++ open_table_rows t) ++ end_row ∷ []
 rows_close before t = sym (append_assoc before (open_table_rows t) (end_row ∷ []))
 
-rows_cell : (before : List Words) (name : List ℕ) (cells : List CellLine) (c : CellLine) → before ++ open_table_rows (table_text name (cells ++ c ∷ [])) ≡ (before ++ open_table_rows (table_text name cells)) ++ cell_words c ∷ []
+rows_cell :
+    (before : List Words) (name : List ℕ) (cells : List CellLine) (c : CellLine)
+    → before ++ open_table_rows (table_text name (cells ++ c ∷ []))
+    ≡ (before ++ open_table_rows (table_text name cells)) ++ cell_words c ∷ []
 rows_cell before name cells c =
-    ap (λ (v : List Words). before ++ (head_row name ∷ v)) (map-append cell_words cells (c ∷ [])) ∙ sym (append_assoc before (open_table_rows (table_text name cells)) (cell_words c ∷ []))
+    ap (λ (v : List Words). before ++ (head_row name ∷ v)) (map-append cell_words cells (c ∷ []))
+    ∙ sym (append_assoc before (open_table_rows (table_text name cells)) (cell_words c ∷ []))
 
-setup_table : (n : ℕ) (ws : List (ℕ × ℕ)) (ts : List TableText) (t : TableText) → setup_of (text n ws (ts ++ t ∷ []) []) ≡ with_table (setup_of (text n ws ts [])) (table_of t.name t.cells)
-setup_table n ws ts t = ap (λ (x : List Table). record { memory = memory_of n ws; tables = x; boards = []; scripts = [] }) (tables_append ts t)
+setup_table :
+    (n : ℕ) (ws : List (ℕ × ℕ)) (ts : List TableText) (t : TableText)
+    → setup_of (text n ws (ts ++ t ∷ []) []) ≡ with_table (setup_of (text n ws ts [])) (table_of t.name t.cells)
+setup_table n ws ts t =
+    ap (λ (x : List Table). record { memory = memory_of n ws; tables = x; boards = []; scripts = [] })
+    (tables_append ts t)
 
-table_takes : (n : ℕ) (ws : List (ℕ × ℕ)) (ts : List TableText) (t : TableText) (l : Words) (m : Mode) → OpenStands (text n ws ts []) t → line_at (in_table (setup_of (text n ws ts [])) (table_of t.name t.cells)) l ≡ Ok m → Grows (opened (text n ws ts []) t) l m
+table_takes :
+    (n : ℕ) (ws : List (ℕ × ℕ)) (ts : List TableText) (t : TableText) (l : Words) (m : Mode)
+    → OpenStands (text n ws ts []) t
+    → line_at (in_table (setup_of (text n ws ts [])) (table_of t.name t.cells)) l ≡ Ok m
+    → Grows (opened (text n ws ts []) t) l m
 table_takes n ws ts t l m h e = go (table_line (table_of t.name t.cells) l) refl e
   where
-    go : (x : Result (Bool × Table) TableKind) → table_line (table_of t.name t.cells) l ≡ x → (as_setup_kind x >>= λ t. Ok (after_table_line (setup_of (text n ws ts [])) t)) ≡ Ok m → Grows (opened (text n ws ts []) t) l m
+    go :
+        (x : Result (Bool × Table) TableKind) → table_line (table_of t.name t.cells) l ≡ x
+        → (as_setup_kind x >>= λ t. Ok (after_table_line (setup_of (text n ws ts [])) t)) ≡ Ok m
+        → Grows (opened (text n ws ts []) t) l m
     go (Err k) r e = absurd cc
     go (Ok (true, u)) r e =
         let is = table_line_takes (table_of t.name t.cells) l (true, u) (table_whole t) r in
         grows_by (opened (text n ws ts []) t) end_row l m is.0 (record {
           next = so_far (text n ws (ts ++ t ∷ []) []);
           good = stands_table n ws ts t h.so_far h.table;
-          mode = ap (λ (x : Setup). body x) (setup_table n ws ts t) ∙ (ap (λ (x : Table). body (with_table (setup_of (text n ws ts [])) x)) (sym is.1) ∙ ok_same (body (with_table (setup_of (text n ws ts [])) u)) m e);
+          mode =
+              ap (λ (x : Setup). body x) (setup_table n ws ts t)
+              ∙ (ap (λ (x : Table). body (with_table (setup_of (text n ws ts [])) x)) (sym is.1)
+              ∙ ok_same (body (with_table (setup_of (text n ws ts [])) u)) m e);
           rows = rows_table n ws ts t ∙ rows_close (open_rows (text n ws ts [])) t;
         })
     go (Ok (false, u)) r e =
         let c = table_line_takes (table_of t.name t.cells) l (false, u) (table_whole t) r in
         grows_by (opened (text n ws ts []) t) (cell_words c.line) l m c.words (record {
           next = opened (text n ws ts []) (table_text t.name (t.cells ++ c.line ∷ []));
-          good = record { so_far = h.so_far; boards = refl; table = cell_stands (tables_of ts) t.name t.cells c.line h.table c.some c.can };
-          mode = ap (λ (x : Table). in_table (setup_of (text n ws ts [])) x) (entered_push (empty_table t.name) t.cells c.line ∙ sym c.enters) ∙ ok_same (in_table (setup_of (text n ws ts [])) u) m e;
+          good =
+              record {
+                so_far = h.so_far;
+                boards = refl;
+                table = cell_stands (tables_of ts) t.name t.cells c.line h.table c.some c.can;
+              };
+          mode =
+              ap (λ (x : Table). in_table (setup_of (text n ws ts [])) x)
+              (entered_push (empty_table t.name) t.cells c.line ∙ sym c.enters)
+              ∙ ok_same (in_table (setup_of (text n ws ts [])) u) m e;
           rows = rows_cell (open_rows (text n ws ts [])) t.name t.cells c.line;
         })
 
@@ -296,7 +471,10 @@ pub line_takes : (p : Part) (l : Words) (m : Mode) → Good p → line_at (mode_
 line_takes begin l m good e = first_takes l m e
 line_takes (so_far s) l m good e = body_takes s.lines s.words s.tables s.boards l m good e
 line_takes (opened s t) l m good e =
-    let none : text s.lines s.words s.tables [] ≡ s = ap (λ (x : List BoardText). text s.lines s.words s.tables x) (sym good.boards) in
-    let P : SetupText → Type 0 = λ x. OpenStands x t → line_at (in_table (setup_of x) (table_of t.name t.cells)) l ≡ Ok m → Grows (opened x t) l m in
+    let none : text s.lines s.words s.tables [] ≡ s =
+    ap (λ (x : List BoardText). text s.lines s.words s.tables x) (sym good.boards) in
+    let P : SetupText → Type 0 =
+    λ x.
+    OpenStands x t → line_at (in_table (setup_of x) (table_of t.name t.cells)) l ≡ Ok m → Grows (opened x t) l m in
     (subst P none (λ h k. table_takes s.lines s.words s.tables t l m h k)) good e
 line_takes (closed s) l m good e = absurd cc

@@ -4,7 +4,7 @@ use Rattle.std.specs.Prelude.{IfOk}
 use Rattle.std.proofs.lemmas.List.{append-nil, length-map}
 use Rattle.fb_text.specs.Places.{Words, lines_items, text_end}
 use Rattle.fb_text.specs.Unread.{Line, unread}
-use Rattle.table_check.specs.Setup.{Setup}
+use Rattle.setup.specs.Setup.{Setup}
 use Rattle.table_text.specs.Reading.{◌>>=◌}
 use Rattle.setup_text.specs.declared.fault.SetupKind.{SetupKind}
 use Rattle.setup_text.specs.declared.fault.SetupFault.{SetupFault}
@@ -32,14 +32,23 @@ ended_at : (p : Part) (end : ℕ) (setup : Setup) → Good p → text_ends (mode
 ended_at begin end setup good e = absurd cc
 ended_at (part s) end setup good e = absurd cc
 ended_at (opened s t) end setup good e = absurd cc
-ended_at (closed s) end setup good e = let same : setup_of s ≡ setup = cc in record { spelled = s; good = good.0; some = good.1; rows = sym (append-nil (setup_rows s)); value = sym same }
+ended_at (closed s) end setup good e =
+    let same : setup_of s ≡ setup = cc in
+    record { spelled = s; good = good.0; some = good.1; rows = sym (append-nil (setup_rows s)); value = sym same }
 
-pub lines_take : (p : Part) (ls : List Line) (end : ℕ) (setup : Setup) → Good p → lines_at (mode_of p) ls end ≡ Ok setup → TakesAll p ls setup
+pub lines_take :
+    (p : Part) (ls : List Line) (end : ℕ) (setup : Setup) → Good p → lines_at (mode_of p) ls end ≡ Ok setup
+    → TakesAll p ls setup
 unfolding lines_at
 lines_take p [] end setup good e = ended_at p end setup good e
-lines_take p (l ∷ ls) end setup good e = go (line_at (mode_of p) l.words) refl e (λ q h k. lines_take q ls end setup h k)
+lines_take p (l ∷ ls) end setup good e =
+    go (line_at (mode_of p) l.words) refl e (λ q h k. lines_take q ls end setup h k)
   where
-    go : (x : Result Mode SetupKind) → line_at (mode_of p) l.words ≡ x → (on_line l.number x >>= λ next. lines_at next ls end) ≡ Ok setup → ((q : Part) → Good q → lines_at (mode_of q) ls end ≡ Ok setup → TakesAll q ls setup) → TakesAll p (l ∷ ls) setup
+    go :
+        (x : Result Mode SetupKind) → line_at (mode_of p) l.words ≡ x
+        → (on_line l.number x >>= λ next. lines_at next ls end) ≡ Ok setup
+        → ((q : Part) → Good q → lines_at (mode_of q) ls end ≡ Ok setup → TakesAll q ls setup)
+        → TakesAll p (l ∷ ls) setup
     go (Err k) h e ih = absurd cc
     go (Ok m) h e ih =
         let g = line_takes p l.words m good h in
@@ -48,17 +57,29 @@ lines_take p (l ∷ ls) end setup good e = go (line_at (mode_of p) l.words) refl
           spelled = rest.spelled;
           good = rest.good;
           some = rest.some;
-          rows = rest.rows ∙ (ap (λ (x : List Words). x ++ words_of ls) g.rows ∙ append_assoc (rows_of p) (l.words ∷ []) (words_of ls));
+          rows =
+              rest.rows
+              ∙ (ap (λ (x : List Words). x ++ words_of ls) g.rows
+              ∙ append_assoc (rows_of p) (l.words ∷ []) (words_of ls));
           value = rest.value;
         }
 
 boards_some : (s : SetupText) → SetupStands s → 0 < length s.boards
-boards_some s h = let low : 1 ≤ length (map (board_of (tables_of s.tables)) s.boards) = h.sound.boards_low in omega (arith, length-map s.boards (board_of (tables_of s.tables)))
+boards_some s h =
+    let low : 1 ≤ length (map (board_of (tables_of s.tables)) s.boards) = h.sound.boards_low in
+    omega (arith, length-map s.boards (board_of (tables_of s.tables)))
 
 module _ {X : Type 0} (bytes : List ℕ) (view : X → Setup) where
-  pub is_spelled : (r : Result X SetupFault) → Answers view r (setup_at (unread bytes)) → IfOk r (λ v. IsSetup bytes (view v))
+  pub is_spelled :
+      (r : Result X SetupFault) → Answers view r (setup_at (unread bytes)) → IfOk r (λ v. IsSetup bytes (view v))
   is_spelled (Err e) given = tt
   is_spelled (Ok v) given =
       let ls = (unread bytes).lines in
       let t = lines_take begin ls (unread bytes).end (view v) tt given in
-      record { spelled = t.spelled; stands = stands t.spelled t.good t.some; text = text_items ls (unread bytes).end ∙ ap (λ (x : List Words). lines_items x ++ text_end ∷ []) (sym t.rows); value = t.value }
+      record {
+        spelled = t.spelled;
+        stands = stands t.spelled t.good t.some;
+        text = text_items ls (unread bytes).end
+            ∙ ap (λ (x : List Words). lines_items x ++ text_end ∷ []) (sym t.rows);
+        value = t.value;
+      }

@@ -20,13 +20,20 @@ pub is_named : (name : List ℕ) (u left : Unread) (t : Table) → IsTable name 
 is_named name u left t h = ap (λ (x : Table). x.name) h.value ∙ entered_name (empty_table name) h.cells
 
 -- what is left after a table is no longer than what was there
-pub lines_shorter : (t : Table) (ls : List Line) (end : ℕ) (r : Table × Unread) → table_lines t ls end ≡ Ok r → length r.1.lines ≤ length ls
+pub lines_shorter :
+    (t : Table) (ls : List Line) (end : ℕ) (r : Table × Unread) → table_lines t ls end ≡ Ok r
+    → length r.1.lines ≤ length ls
 unfolding table_lines
 lines_shorter t [] end r e = absurd cc
 lines_shorter t (l ∷ ls) end r e = go (λ cells h. lines_shorter cells ls end r h) (table_line t l.words) e
   where
-    go : ((cells : Table) → table_lines cells ls end ≡ Ok r → length r.1.lines ≤ length ls) → (x : Result (Bool × Table) TableKind)
-        → ((TableReading.on_line l.number x) >>= λ x. cond x.0 (Ok (x.1, record { line = l.number; words = []; lines = ls; end = end })) (table_lines x.1 ls end)) ≡ Ok r → length r.1.lines ≤ length (l ∷ ls)
+    go :
+        ((cells : Table) → table_lines cells ls end ≡ Ok r → length r.1.lines ≤ length ls)
+        → (x : Result (Bool × Table) TableKind)
+        → ((TableReading.on_line l.number x) >>=
+        λ x.
+        cond x.0 (Ok (x.1, record { line = l.number; words = []; lines = ls; end = end }))
+        (table_lines x.1 ls end)) ≡ Ok r → length r.1.lines ≤ length (l ∷ ls)
     go rest (Err k) e = absurd cc
     go rest (Ok (true, cells)) e =
         let same : (cells, record { line = l.number; words = []; lines = ls; end = end }) ≡ r = cc in
@@ -34,26 +41,41 @@ lines_shorter t (l ∷ ls) end r e = go (λ cells h. lines_shorter cells ls end 
         subst P same (omega arith)
     go rest (Ok (false, cells)) e = let h = rest cells e in omega arith
 
-pub is_shorter : (name : List ℕ) (u : Unread) (r : Table × Unread) → table_at name u ≡ Ok r → length r.1.lines ≤ length u.lines
+pub is_shorter :
+    (name : List ℕ) (u : Unread) (r : Table × Unread) → table_at name u ≡ Ok r → length r.1.lines ≤ length u.lines
 unfolding table_at
 is_shorter name u r e = go (TableReading.line_ends u.words) e
   where
-    go : (x : Result (Unit {0}) TableKind) → ((TableReading.on_line u.line x) >>= λ _. table_lines (empty_table name) u.lines u.end) ≡ Ok r → length r.1.lines ≤ length u.lines
+    go :
+        (x : Result (Unit {0}) TableKind)
+        → ((TableReading.on_line u.line x) >>= λ _. table_lines (empty_table name) u.lines u.end) ≡ Ok r
+        → length r.1.lines ≤ length u.lines
     go (Err k) e = absurd cc
     go (Ok x) e = lines_shorter (empty_table name) u.lines u.end r e
 
 -- the lines of a table, read as lines of a text, up to where the table ends
 module _ {R : Type 0} (within whole : Table → List Line → ℕ → Result R Fault)
     (none : (t : Table) (end : ℕ) → within t [] end ≡ Err (record { line = end; kind = NoEnd }))
-    (one : (t : Table) (l : Line) (ls : List Line) (end : ℕ) → within t (l ∷ ls) end ≡ (on_line l.number (as_setup_kind (table_line t l.words)) >>= λ x. cond x.0 (whole x.1 ls end) (within x.1 ls end))) where
-  pub through_lines : (t : Table) (ls : List Line) (end : ℕ) → within t ls end ≡ (as_setup_fault (table_lines t ls end) >>= λ r. whole r.0 r.1.lines r.1.end)
+    (one : (t : Table) (l : Line) (ls : List Line) (end : ℕ)
+    → within t (l ∷ ls) end
+    ≡ (on_line l.number (as_setup_kind (table_line t l.words)) >>=
+    λ x. cond x.0 (whole x.1 ls end) (within x.1 ls end))) where
+  pub through_lines :
+      (t : Table) (ls : List Line) (end : ℕ)
+      → within t ls end ≡ (as_setup_fault (table_lines t ls end) >>= λ r. whole r.0 r.1.lines r.1.end)
   unfolding table_lines
   through_lines t [] end = none t end
   through_lines t (l ∷ ls) end = one t l ls end ∙ go (λ cells. through_lines cells ls end) (table_line t l.words)
     where
-      go : ((cells : Table) → within cells ls end ≡ (as_setup_fault (table_lines cells ls end) >>= λ r. whole r.0 r.1.lines r.1.end)) → (x : Result (Bool × Table) TableKind)
+      go :
+          ((cells : Table)
+          → within cells ls end ≡ (as_setup_fault (table_lines cells ls end) >>= λ r. whole r.0 r.1.lines r.1.end))
+          → (x : Result (Bool × Table) TableKind)
           → (on_line l.number (as_setup_kind x) >>= λ x. cond x.0 (whole x.1 ls end) (within x.1 ls end))
-          ≡ (as_setup_fault ((TableReading.on_line l.number x) >>= λ x. cond x.0 (Ok (x.1, record { line = l.number; words = []; lines = ls; end = end })) (table_lines x.1 ls end)) >>= λ r. whole r.0 r.1.lines r.1.end)
+          ≡ (as_setup_fault ((TableReading.on_line l.number x) >>=
+          λ x.
+          cond x.0 (Ok (x.1, record { line = l.number; words = []; lines = ls; end = end }))
+          (table_lines x.1 ls end)) >>= λ r. whole r.0 r.1.lines r.1.end)
       go rest (Err k) = refl
       go rest (Ok (true, cells)) = refl
       go rest (Ok (false, cells)) = rest cells

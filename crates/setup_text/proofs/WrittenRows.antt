@@ -29,7 +29,14 @@ IsLine l = (0 < length l) × AllByRecursion (λ w. is_word w ≡ true) l
 -- ---- numbers
 
 high : (c : ℕ) → 48 ≤ c → is_word_byte c ≡ true
-high c le = rw (ne_eqb c 32 (λ e. omega arith), ne_eqb c 9 (λ e. omega arith), ne_eqb c 13 (λ e. omega arith), ne_eqb c 10 (λ e. omega arith), ne_eqb c 35 (λ e. omega arith)) refl
+high c le =
+    rw (
+      ne_eqb c 32 (λ e. omega arith),
+      ne_eqb c 9 (λ e. omega arith),
+      ne_eqb c 13 (λ e. omega arith),
+      ne_eqb c 10 (λ e. omega arith),
+      ne_eqb c 35 (λ e. omega arith),
+    ) refl
 
 digits_plain : (ds : List ℕ) → AllDigits 10 ds → list_all is_word_byte ds ≡ true
 digits_plain [] h = refl
@@ -43,13 +50,18 @@ some_digits [] some h = absurd (omega arith)
 some_digits (d ∷ ds) some h = h
 
 decimal_plain : (n : ℕ) → n < 2 ^ 64 → is_word (decimal n) ≡ true
-decimal_plain n small = let numeral = decimal_is_IsNumeral n small in some_digits (decimal n) numeral.0.0 (digits_plain (decimal n) numeral.0.1)
+decimal_plain n small =
+    let numeral = decimal_is_IsNumeral n small in
+    some_digits (decimal n) numeral.0.0 (digits_plain (decimal n) numeral.0.1)
 
 -- ---- lines
 
 access_plain : (a : Access) → AccessFits a → IsLine (access_row a)
 access_plain (Read addr) h = (omega arith, (refl, (decimal_plain addr (omega arith), tt)))
-access_plain (Write addr value) h = (omega arith, (refl, (decimal_plain addr (let a = h.0 in omega arith), (decimal_plain value (let v = h.1 in omega arith), tt))))
+access_plain (Write addr value) h = (
+  omega arith,
+  (refl, (decimal_plain addr (let a = h.0 in omega arith), (decimal_plain value (let v = h.1 in omega arith), tt))),
+)
 access_plain (Pass addr) h = (omega arith, (refl, (decimal_plain addr (omega arith), tt)))
 access_plain (Flush addr) h = (omega arith, (refl, (decimal_plain addr (omega arith), tt)))
 
@@ -59,7 +71,8 @@ accesses_plain (a ∷ rest) h = (access_plain a h.0, accesses_plain rest h.1)
 
 shape_plain : (shape : Shape) → ShapeFits shape → AreWords (shape_words shape)
 shape_plain Plain h = (refl, tt)
-shape_plain (Cached sets ways) h = (refl, (decimal_plain sets (let a = h.1 in omega arith), (decimal_plain ways (let a = h.3 in omega arith), tt)))
+shape_plain (Cached sets ways) h =
+    (refl, (decimal_plain sets (let a = h.1 in omega arith), (decimal_plain ways (let a = h.3 in omega arith), tt)))
 
 choose_plain : (choose : Choose) → ChooseFits choose → AreWords (choose_words choose)
 choose_plain First h = (refl, tt)
@@ -83,7 +96,8 @@ board_plain b h =
                 refl,
                 (
                   name_plain b.table h.table,
-                  all_append (λ w. is_word w ≡ true) (shape_words b.shape) (codes "choose" ∷ choose_words b.choose) (shape_plain b.shape h.shape) (refl, choose_plain b.choose h.choose),
+                  all_append (λ w. is_word w ≡ true) (shape_words b.shape) (codes "choose" ∷ choose_words b.choose)
+                      (shape_plain b.shape h.shape) (refl, choose_plain b.choose h.choose),
                 ),
               ),
             ),
@@ -94,19 +108,40 @@ board_plain b h =
 
 boards_plain : (bs : List BoardText) → AllByRecursion BoardFits bs → AreLines (flat_map board_rows bs)
 boards_plain [] h = tt
-boards_plain (b ∷ bs) h = (board_plain b h.0, all_append IsLine (map access_row b.script) (flat_map board_rows bs) (accesses_plain b.script h.0.script) (boards_plain bs h.1))
+boards_plain (b ∷ bs) h = (
+  board_plain b h.0,
+  all_append IsLine (map access_row b.script) (flat_map board_rows bs) (accesses_plain b.script h.0.script)
+      (boards_plain bs h.1),
+)
 
 tables_plain : (ts : List TableText) → AllByRecursion TableFits ts → AreLines (tables_rows ts)
 tables_plain [] h = tt
-tables_plain (t ∷ ts) h =
-    ((omega arith, (refl, (name_plain t.name h.0.name, tt))), all_append IsLine _ (tables_rows ts) (rows_plain t.cells) (tables_plain ts h.1))
+tables_plain (t ∷ ts) h = (
+  (omega arith, (refl, (name_plain t.name h.0.name, tt))),
+  all_append IsLine _ (tables_rows ts) (rows_plain t.cells) (tables_plain ts h.1),
+)
 
 words_plain : (ws : List (ℕ × ℕ)) → AllByRecursion WordFits ws → AreLines (map word_row ws)
 words_plain [] h = tt
-words_plain (w ∷ ws) h = ((omega arith, (refl, (decimal_plain w.0 (let a = h.0.0 in omega arith), (decimal_plain w.1 (let a = h.0.1 in omega arith), tt)))), words_plain ws h.1)
+words_plain (w ∷ ws) h = (
+  (
+    omega arith,
+    (
+      refl,
+      (decimal_plain w.0 (let a = h.0.0 in omega arith), (decimal_plain w.1 (let a = h.0.1 in omega arith), tt)),
+    ),
+  ),
+  words_plain ws h.1,
+)
 
 pub setup_plain : (s : SetupText) → SetupFits s → AreLines (setup_rows s)
 setup_plain s h =
     let low = h.lines in
-    let parts = all_append IsLine (map word_row s.words) (tables_rows s.tables ++ flat_map board_rows s.boards) (words_plain s.words h.words) (all_append IsLine (tables_rows s.tables) (flat_map board_rows s.boards) (tables_plain s.tables h.tables) (boards_plain s.boards h.boards)) in
-    ((omega arith, (refl, (decimal_plain s.lines (omega arith), tt))), all_append IsLine (map word_row s.words ++ (tables_rows s.tables ++ flat_map board_rows s.boards)) (end_row ∷ []) parts ((omega arith, (refl, tt)), tt))
+    let parts = all_append IsLine (map word_row s.words) (tables_rows s.tables ++ flat_map board_rows s.boards)
+    (words_plain s.words h.words)
+    (all_append IsLine (tables_rows s.tables) (flat_map board_rows s.boards) (tables_plain s.tables h.tables)
+    (boards_plain s.boards h.boards)) in (
+      (omega arith, (refl, (decimal_plain s.lines (omega arith), tt))),
+      all_append IsLine (map word_row s.words ++ (tables_rows s.tables ++ flat_map board_rows s.boards))
+          (end_row ∷ []) parts ((omega arith, (refl, tt)), tt),
+    )

@@ -16,7 +16,9 @@ use Rattle.setup_text.specs.Writing.{text_of_table}
 
 pub tables_again : (ts : List Table) → AllByRecursion IsWhole ts → tables_of (map text_of_table ts) ≡ ts
 tables_again [] h = refl
-tables_again (t ∷ ts) h = ap (λ (u : Table). u ∷ tables_of (map text_of_table ts)) (cells_spell t h.0) ∙ ap (λ (v : List Table). t ∷ v) (tables_again ts h.1)
+tables_again (t ∷ ts) h =
+    ap (λ (u : Table). u ∷ tables_of (map text_of_table ts)) (cells_spell t h.0)
+    ∙ ap (λ (v : List Table). t ∷ v) (tables_again ts h.1)
 
 pub tables_stand : (ts : List Table) → AllByRecursion IsWhole ts → AllByRecursion CellsStand (map text_of_table ts)
 tables_stand [] h = tt
@@ -30,7 +32,10 @@ have_alternatives t (answer s e alts ∷ cells) h = (h.0.1, have_alternatives (e
 
 pub tables_fit : (ts : List Table) → AllByRecursion IsWhole ts → AllByRecursion TableFits (map text_of_table ts)
 tables_fit [] h = tt
-tables_fit (t ∷ ts) h = (record { name = h.0.named; cells = have_alternatives (empty_table t.name) (cells_of t) (cells_stand t h.0) }, tables_fit ts h.1)
+tables_fit (t ∷ ts) h = (
+  record { name = h.0.named; cells = have_alternatives (empty_table t.name) (cells_of t) (cells_stand t h.0) },
+  tables_fit ts h.1,
+)
 
 -- ---- a table is found by its name
 
@@ -44,8 +49,15 @@ other_bytes a b ne = go (bytes_eq a b) refl
     go true h = absurd (ne ((bytes_eq-Decides a b).0 h))
     go false h = refl
 
-pub place_again : (ts : List Table) (i : ℕ) (d : Table) → AllPairs (λ (a b : Table). a.name ≢ b.name) ts → i < length ts → place_of ts (get_or ts i d).name ≡ i
+pub place_again :
+    (ts : List Table) (i : ℕ) (d : Table) → AllPairs (λ (a b : Table). a.name ≢ b.name) ts → i < length ts
+    → place_of ts (get_or ts i d).name ≡ i
 place_again [] i d differ lt = absurd (omega arith)
 place_again (t ∷ ts) zero d differ lt = rw (same_bytes t.name) refl
 place_again (t ∷ ts) (suc i) d differ lt =
-    rw (other_bytes (get_or ts i d).name t.name (λ e. differ 0 (suc i) d (omega arith) lt (sym e))) (omega (arith, place_again ts i d (λ j k e less within. differ (suc j) (suc k) e (omega arith) (omega arith)) (omega arith)))
+    rw (other_bytes (get_or ts i d).name t.name (λ e. differ 0 (suc i) d (omega arith) lt (sym e)))
+    (omega (
+      arith,
+      place_again ts i d (λ j k e less within. differ (suc j) (suc k) e (omega arith) (omega arith))
+          (omega arith),
+    ))

@@ -10,13 +10,14 @@ use Rattle.table_check.specs.declared.boards.BoardSpec.{BoardSpec}
 use Rattle.table_check.specs.declared.boards.Shape.{Shape}
 use Rattle.table_check.specs.declared.boards.Shape.TheVariants.{Plain, Cached}
 use Rattle.table_check.specs.Reached.{is_reached}
-use Rattle.table_check.specs.Setup.{Setup, BoardFits, line_count, access_count}
+use Rattle.setup.specs.Setup.{Setup, BoardFits, line_count, access_count}
 
 -- ---- changes
 
 -- A setup of so many lines of memory, and nothing else.
 abbrev pub empty_setup : ℕ → Setup
-empty_setup lines = record { memory = replicate (4 * lines) 0; tables = []; boards = []; scripts = [] }
+empty_setup lines =
+    record { memory = replicate (4 * lines) 0; tables = []; boards = []; scripts = [] }
 
 abbrev pub with_word : Setup → ℕ → ℕ → Setup
 with_word setup addr value = record setup { memory = slice_set setup.memory addr value }
@@ -26,11 +27,14 @@ with_table setup table = record setup { tables = setup.tables ++ table ∷ [] }
 
 -- A setup with one more board, whose script is empty.
 abbrev pub with_board : Setup → BoardSpec → Setup
-with_board setup board = record setup { boards = setup.boards ++ board ∷ []; scripts = setup.scripts ++ [] ∷ [] }
+with_board setup board =
+    record setup { boards = setup.boards ++ board ∷ []; scripts = setup.scripts ++ [] ∷ [] }
 
 -- Scripts with one more access at the end of the last.
 abbrev pub access_added : List (List Access) → Access → List (List Access)
-access_added scripts access = slice_set scripts (length scripts - 1) (slice_index_or scripts (length scripts - 1) [] ++ access ∷ [])
+access_added scripts access =
+    slice_set scripts (length scripts - 1)
+    (slice_index_or scripts (length scripts - 1) [] ++ access ∷ [])
 
 abbrev pub with_access : Setup → Access → Setup
 with_access setup access = record setup { scripts = access_added setup.scripts access }
@@ -39,7 +43,8 @@ with_access setup access = record setup { scripts = access_added setup.scripts a
 
 -- Whether a table reaches no state but I.
 abbrev pub stays_invalid : Table → Bool
-stays_invalid table = not (is_reached table M || is_reached table O || is_reached table E || is_reached table S)
+stays_invalid table =
+    not (is_reached table M || is_reached table O || is_reached table E || is_reached table S)
 
 -- A name, and whether its table reaches no state but I.
 abbrev pub Named : Type 0
@@ -54,7 +59,8 @@ further p = (p.0 + 1, p.1)
 -- The place of a name from 0, and whether its table reaches no state but I.
 abbrev pub found_name : List Named → List ℕ → Option (ℕ × Bool)
 found_name [] name = None
-found_name (n ∷ names) name = if bytes_eq name n.0 then Some (0, n.1) else option_map further (found_name names name)
+found_name (n ∷ names) name =
+    if bytes_eq name n.0 then Some (0, n.1) else option_map further (found_name names name)
 
 -- ---- what holds of it
 
@@ -79,7 +85,8 @@ pub record IsDraft (setup : Setup) : Type 0 where
 
 -- The place is that of a table, and says whether it reaches no state but I.
 abbrev pub IsKnown : List Table → ℕ × Bool → Type 0
-IsKnown tables p = (p.0 < length tables) × (p.1 ≡ stays_invalid (slice_index_or tables p.0 (empty_table [])))
+IsKnown tables p =
+    (p.0 < length tables) × (p.1 ≡ stays_invalid (slice_index_or tables p.0 (empty_table [])))
 
 -- The cache of a board, of a table that reaches no state but I or not.
 abbrev pub IsShape : Bool → Shape → Type 0

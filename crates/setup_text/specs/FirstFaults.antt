@@ -7,8 +7,11 @@ use Rattle.setup_text.specs.Grammars.{setup_grammar, book_grammar, schedule_gram
 use Rattle.setup_text.specs.Reading.{Fault, setup_at, book_at, schedule_at}
 
 -- Reading any text gives a fault exactly where that is the text's first fault.
-abbrev pub FindsFirstFault : {S R : Type 0} → Grammar S SetupKind → (Unread → Result R Fault) → Type 0
-FindsFirstFault g read = (bytes : List ℕ) (fault : Fault) → (read (unread bytes) ≡ Err fault) ↔ FirstFault g (text_places bytes) fault.line fault.kind
+abbrev pub FindsFirstFault :
+    {S R : Type 0} → Grammar S SetupKind → (Unread → Result R Fault) → Type 0
+FindsFirstFault g read =
+    (bytes : List ℕ) (fault : Fault) → (read (unread bytes) ≡ Err fault)
+    ↔ FirstFault g (text_places bytes) fault.line fault.kind
 
 -- The fault of a setup is its first one.
 abbrev pub SetupFaultsAreFirst : Type 0
@@ -20,4 +23,6 @@ BookFaultsAreFirst = FindsFirstFault book_grammar book_at
 
 -- The fault of a schedule is its first one.
 abbrev pub ScheduleFaultsAreFirst : Type 0
-ScheduleFaultsAreFirst = (boards : ℕ) → 1 ≤ boards → boards ≤ 16 → FindsFirstFault (schedule_grammar boards) (schedule_at boards)
+ScheduleFaultsAreFirst =
+    (boards : ℕ) → 1 ≤ boards → boards ≤ 16
+    → FindsFirstFault (schedule_grammar boards) (schedule_at boards)

@@ -1,4 +1,5 @@
--- The grammars of texts of tables, of setups and of schedules: where their side conditions are judged, and what faults are called.
+-- The grammars of texts of tables, of setups and of schedules: where their side conditions are
+-- judged, and what faults are called.
 use Rattle.std.specs.Prelude.{◌≡◌, ◌≢◌, ℕ, ◌+◌, ◌*◌, ◌<◌, ◌≤◌, ◌^◌, ◌⊎◌, Bool, true, false, ◌&&◌, List, [], ◌∷◌, ◌++◌, length, map, Option, Some, None, Contains, codes, decimal, if◌then◌else◌}
 use Rattle.std.specs.Str.{bytes_eq}
 use Rattle.fb_text.specs.Places.{Words, Item, word, line_end, text_end, lines_items, BreaksAtWord, Grammar}
@@ -9,7 +10,7 @@ use Rattle.class_words.specs.Words.{local_event_word}
 use Rattle.class_relation.specs.Tables.{Table}
 use Rattle.table_check.specs.declared.boards.BoardSpec.{BoardSpec}
 use Rattle.table_check.specs.Reached.{Reached}
-use Rattle.table_check.specs.Setup.{Setup, access_count}
+use Rattle.setup.specs.Setup.{Setup, access_count}
 use Rattle.table_text.specs.declared.fault.TableKind.{TableKind}
 use Rattle.table_text.specs.declared.fault.TableKind.TheVariants as table_kinds
 use Rattle.table_text.specs.Spelling.{cell_words, BreaksCell}
@@ -60,7 +61,8 @@ has_front (f ∷ fs) [] = false
 has_front (f ∷ fs) (w ∷ ws) = is_one f w && has_front fs ws
 
 abbrev pub board_front : Front
-board_front = the (codes "board") ∷ any ∷ the (codes "number") ∷ any ∷ the (codes "table") ∷ any ∷ []
+board_front =
+    the (codes "board") ∷ any ∷ the (codes "number") ∷ any ∷ the (codes "table") ∷ any ∷ []
 
 abbrev pub plain_front : Front
 plain_front = board_front ++ the (codes "plain") ∷ []
@@ -114,14 +116,16 @@ wants_number ways = true
 wants_number seed = true
 wants_number s = false
 
--- ---- the side conditions, each at the word where it is judged, after the words of its line and a setup that was read so far
+-- ---- the side conditions, each at the word where it is judged, after the words of its line and a
+-- setup that was read so far
 
 abbrev pub IsAccessWord : List ℕ → Type 0
 IsAccessWord w = (event : LocalEvent) × (w ≡ local_event_word event)
 
 -- The word `table` where there are 16 tables.
 abbrev pub JudgedTableWord : List Table → List ℕ → SetupKind → Type 0
-JudgedTableWord tables w kind = (w ≡ codes "table") × (length tables ≡ 16) × (kind ≡ Limit Tables 17)
+JudgedTableWord tables w kind =
+    (w ≡ codes "table") × (length tables ≡ 16) × (kind ≡ Limit Tables 17)
 
 -- The name of a table that an earlier one has.
 abbrev pub JudgedName : List Table → List ℕ → SetupKind → Type 0
@@ -137,7 +141,9 @@ JudgedFirst setup w kind =
 
 -- An address that memory lacks.
 abbrev pub JudgedAddress : Setup → List ℕ → SetupKind → Type 0
-JudgedAddress setup w kind = (addr : ℕ) × (addr < 2 ^ 32) × (w ≡ decimal addr) × (length setup.memory ≤ addr) × (kind ≡ Address)
+JudgedAddress setup w kind =
+    (addr : ℕ) × (addr < 2 ^ 32) × (w ≡ decimal addr) × (length setup.memory ≤ addr)
+    × (kind ≡ Address)
 
 -- A place that is not the next one.
 abbrev pub JudgedPlace : Setup → List ℕ → SetupKind → Type 0
@@ -145,7 +151,9 @@ JudgedPlace setup w kind = (w ≢ decimal (length setup.boards + 1)) × (kind �
 
 -- A number that an earlier board has.
 abbrev pub JudgedNumber : Setup → List ℕ → SetupKind → Type 0
-JudgedNumber setup w kind = (n : ℕ) × (n ≤ 255) × (w ≡ decimal n) × Contains (map (λ (b : BoardSpec). b.number) setup.boards) n × (kind ≡ TwiceNumber)
+JudgedNumber setup w kind =
+    (n : ℕ) × (n ≤ 255) × (w ≡ decimal n)
+    × Contains (map (λ (b : BoardSpec). b.number) setup.boards) n × (kind ≡ TwiceNumber)
 
 -- A name that no table has.
 abbrev pub JudgedTable : Setup → List ℕ → SetupKind → Type 0
@@ -159,11 +167,14 @@ last_word (v ∷ w ∷ ws) = last_word (w ∷ ws)
 -- The word `plain` after the name of a table that reaches a state other than I.
 abbrev pub JudgedShape : Setup → Words → List ℕ → SetupKind → Type 0
 JudgedShape setup words w kind =
-    (w ≡ codes "plain") × (t : Table) × (s : State) × Contains setup.tables t × (t.name ≡ last_word words) × Reached t s × (s ≢ I) × (kind ≡ NoFrames)
+    (w ≡ codes "plain") × (t : Table) × (s : State) × Contains setup.tables t
+    × (t.name ≡ last_word words) × Reached t s × (s ≢ I) × (kind ≡ NoFrames)
 
 -- More frames than a board can have.
 abbrev pub JudgedWays : Words → List ℕ → SetupKind → Type 0
-JudgedWays words w kind = (m : ℕ) × (n : ℕ) × (m ≤ 256) × (n ≤ 256) × (last_word words ≡ decimal m) × (w ≡ decimal n) × (256 < m * n) × (kind ≡ Limit Frames (m * n))
+JudgedWays words w kind =
+    (m : ℕ) × (n : ℕ) × (m ≤ 256) × (n ≤ 256) × (last_word words ≡ decimal m) × (w ≡ decimal n)
+    × (256 < m * n) × (kind ≡ Limit Frames (m * n))
 
 abbrev pub JudgedAs : Slot → Setup → Words → List ℕ → SetupKind → Type 0
 JudgedAs first setup words w kind = JudgedFirst setup w kind
@@ -178,7 +189,8 @@ JudgedAs s setup words w kind = ⊥
 
 -- The number of lines of memory.
 abbrev pub JudgedLines : List ℕ → SetupKind → Type 0
-JudgedLines w kind = (n : ℕ) × (n < 2 ^ 32) × (w ≡ decimal n) × ((n ≡ 0) ⊎ (4096 < n)) × (kind ≡ Limit Lines n)
+JudgedLines w kind =
+    (n : ℕ) × (n < 2 ^ 32) × (w ≡ decimal n) × ((n ≡ 0) ⊎ (4096 < n)) × (kind ≡ Limit Lines n)
 
 -- The kind of a table's fault in a setup or a text of tables.
 abbrev pub kind_of : TableKind → SetupKind
@@ -189,7 +201,8 @@ kind_of (table_kinds.Alternatives count) = Limit Alternatives count
 kind_of table_kinds.NoEnd = NoEnd
 
 -- After whole lines, a side condition of a table that is open fails at a word of one of its lines.
-pub record JudgedInTable (front earlier : List Words) (words : Words) (here : List ℕ) (kind : SetupKind) : Type 0 where
+pub record JudgedInTable (front earlier : List Words) (words : Words) (here : List ℕ)
+    (kind : SetupKind) : Type 0 where
   pub open_table : TableText
   pub fits : TableFits open_table
   pub parts : earlier ≡ front ++ open_table_rows open_table
@@ -197,11 +210,13 @@ pub record JudgedInTable (front earlier : List Words) (words : Words) (here : Li
   pub breaks : BreaksCell (map cell_words open_table.cells) words here table_kind
   pub kind_is : kind ≡ kind_of table_kind
 
--- A side condition fails at a word of a setup: on the first line, after the lines of a setup that stands so far, or in a table after them.
+-- A side condition fails at a word of a setup: on the first line, after the lines of a setup that
+-- stands so far, or in a table after them.
 abbrev pub BreaksSetup : List Words → Words → List ℕ → SetupKind → Type 0
 BreaksSetup earlier words here kind =
     ((earlier ≡ []) × (words ≡ codes "memory" ∷ []) × JudgedLines here kind)
-    ⊎ ((s : SetupText) × StandsSoFar s × (earlier ≡ open_rows s) × JudgedAs (slot_of words) (setup_of s) words here kind)
+    ⊎ ((s : SetupText) × StandsSoFar s × (earlier ≡ open_rows s)
+    × JudgedAs (slot_of words) (setup_of s) words here kind)
     ⊎ ((s : SetupText) × StandsSoFar s × JudgedInTable (open_rows s) earlier words here kind)
 
 -- The side conditions of tables at the words of head lines.
@@ -210,11 +225,14 @@ JudgedHead first tables w kind = JudgedTableWord tables w kind
 JudgedHead name tables w kind = JudgedName tables w kind
 JudgedHead s tables w kind = ⊥
 
--- A side condition fails at a word of a text of tables: after whole tables that stand, or in one after them.
+-- A side condition fails at a word of a text of tables: after whole tables that stand, or in one
+-- after them.
 abbrev pub BreaksBook : List Words → Words → List ℕ → SetupKind → Type 0
 BreaksBook earlier words here kind =
-    ((tables : List TableText) × TablesStand tables × (earlier ≡ tables_rows tables) × JudgedHead (slot_of words) (tables_of tables) here kind)
-    ⊎ ((tables : List TableText) × TablesStand tables × JudgedInTable (tables_rows tables) earlier words here kind)
+    ((tables : List TableText) × TablesStand tables × (earlier ≡ tables_rows tables)
+    × JudgedHead (slot_of words) (tables_of tables) here kind)
+    ⊎ ((tables : List TableText) × TablesStand tables
+    × JudgedInTable (tables_rows tables) earlier words here kind)
 
 -- ---- the kinds of the other faults
 
@@ -231,7 +249,8 @@ abbrev pub unfit_end : Words → SetupKind
 unfit_end words = if has_front cell_front words then NoCell else unfit_word words
 
 -- The kind is that which the words of the line before this place give.
-pub record UnfitBehind (kind_at : Words → SetupKind) (before : List Item) (kind : SetupKind) : Type 0 where
+pub record UnfitBehind (kind_at : Words → SetupKind) (before : List Item) (kind : SetupKind) : Type
+    0 where
   pub earlier : List Words
   pub words : Words
   pub before_is : before ≡ lines_items earlier ++ map word words
@@ -245,10 +264,22 @@ UnfitText before (word w) kind = UnfitBehind unfit_word before kind
 -- ---- the grammars
 
 abbrev pub setup_grammar : Grammar SetupText SetupKind
-setup_grammar = record { spelled = setup_items; Fits = SetupFits; Breaks = BreaksAtWord BreaksSetup; Unfit = UnfitText }
+setup_grammar =
+    record {
+      spelled = setup_items;
+      Fits = SetupFits;
+      Breaks = BreaksAtWord BreaksSetup;
+      Unfit = UnfitText;
+    }
 
 abbrev pub book_grammar : Grammar (List TableText) SetupKind
-book_grammar = record { spelled = book_items; Fits = BookFits; Breaks = BreaksAtWord BreaksBook; Unfit = UnfitText }
+book_grammar =
+    record {
+      spelled = book_items;
+      Fits = BookFits;
+      Breaks = BreaksAtWord BreaksBook;
+      Unfit = UnfitText;
+    }
 
 -- A schedule has no side conditions, and every fault of it is Number.
 abbrev pub schedule_grammar : ℕ → Grammar (List (List ℕ)) SetupKind

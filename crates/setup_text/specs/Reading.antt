@@ -19,7 +19,7 @@ use Rattle.table_check.specs.declared.boards.Choose.{Choose}
 use Rattle.table_check.specs.declared.boards.Choose.TheVariants.{First, Round, Seed}
 use Rattle.table_check.specs.declared.boards.Shape.{Shape}
 use Rattle.table_check.specs.declared.boards.Shape.TheVariants.{Plain, Cached}
-use Rattle.table_check.specs.Setup.{Setup, access_count}
+use Rattle.setup.specs.Setup.{Setup, access_count}
 use Rattle.table_text.specs.declared.fault.TableKind.{TableKind}
 use Rattle.table_text.specs.Reading.{◌>>=◌, table_line, table_at}
 use Rattle.table_text.specs.Reading as TableReading
@@ -79,21 +79,25 @@ in_lines n = if nat_eq n 0 || nat_lt 4096 n then Err (Limit Lines n) else Ok n
 
 -- How many lines memory has, after the word `memory`.
 unfoldable pub memory_line : Words → Result ℕ SetupKind
-memory_line ws = number_at 4294967295 ws >>= λ n. in_lines n.0 >>= λ lines. line_ends n.1 >>= λ _. Ok lines
+memory_line ws =
+    number_at 4294967295 ws >>= λ n. in_lines n.0 >>= λ lines. line_ends n.1 >>= λ _. Ok lines
 
 -- An address below a bound.
 abbrev pub in_memory : ℕ → ℕ → Result ℕ SetupKind
 in_memory bound addr = if nat_lt addr bound then Ok addr else Err Address
 
 unfoldable pub address_at : ℕ → Words → Result (ℕ × Words) SetupKind
-address_at bound ws = number_at 4294967295 ws >>= λ n. in_memory bound n.0 >>= λ addr. Ok (addr, n.1)
+address_at bound ws =
+    number_at 4294967295 ws >>= λ n. in_memory bound n.0 >>= λ addr. Ok (addr, n.1)
 
 -- A line of one address, and a line of an address and a value, after their first word.
 unfoldable pub address_line : ℕ → Words → Result ℕ SetupKind
 address_line bound ws = address_at bound ws >>= λ a. line_ends a.1 >>= λ _. Ok a.0
 
 unfoldable pub value_line : ℕ → Words → Result (ℕ × ℕ) SetupKind
-value_line bound ws = address_at bound ws >>= λ a. number_at 4294967295 a.1 >>= λ v. line_ends v.1 >>= λ _. Ok (a.0, v.0)
+value_line bound ws =
+    address_at bound ws >>=
+    λ a. number_at 4294967295 a.1 >>= λ v. line_ends v.1 >>= λ _. Ok (a.0, v.0)
 
 -- ---- boards
 
@@ -110,7 +114,10 @@ choose_at (w ∷ ws) =
 
 -- As many frames as fit.
 abbrev pub framed : ℕ → ℕ × Words → Result (Shape × Words) SetupKind
-framed sets ways = if nat_lt 256 (sets * ways.0) then Err (Limit Frames (sets * ways.0)) else Ok (Cached sets ways.0, ways.1)
+framed sets ways =
+    if nat_lt 256 (sets * ways.0)
+    then Err (Limit Frames (sets * ways.0))
+    else Ok (Cached sets ways.0, ways.1)
 
 unfoldable pub frames_at : Words → Result (Shape × Words) SetupKind
 frames_at ws = number_from_one 256 ws >>= λ sets. number_from_one 256 sets.1 >>= framed sets.0
@@ -151,20 +158,25 @@ table_name_at tables ws = name_at ws >>= λ n. known_name (found_name (map named
 -- A board line after its first word, up to its number; to its table; and to its end.
 unfoldable pub board_front : List BoardSpec → Words → Result (ℕ × Words) SetupKind
 board_front boards ws =
-    place_at (length boards) ws >>= λ number. this_word (codes "number") number >>= board_number_at boards
+    place_at (length boards) ws >>=
+    λ number. this_word (codes "number") number >>= board_number_at boards
 
 unfoldable pub board_table : List Table → Words → Result (ℕ × Bool × Words) SetupKind
 board_table tables ws = this_word (codes "table") ws >>= table_name_at tables
 
 unfoldable pub board_back : Words → Result Choose SetupKind
-board_back ws = this_word (codes "choose") ws >>= λ after. choose_at after >>= λ c. line_ends c.1 >>= λ _. Ok c.0
+board_back ws =
+    this_word (codes "choose") ws >>=
+    λ after. choose_at after >>= λ c. line_ends c.1 >>= λ _. Ok c.0
 
 abbrev pub board_spec : ℕ → ℕ → Shape → Choose → BoardSpec
-board_spec number table shape choose = record { number = number; table = table; shape = shape; choose = choose }
+board_spec number table shape choose =
+    record { number = number; table = table; shape = shape; choose = choose }
 
 unfoldable pub board_line : Setup → Words → Result BoardSpec SetupKind
 board_line setup ws =
-    board_front setup.boards ws >>= λ n. board_table setup.tables n.1 >>= λ t. shape_at t.1 t.2 >>= λ shape.
+    board_front setup.boards ws >>=
+    λ n. board_table setup.tables n.1 >>= λ t. shape_at t.1 t.2 >>= λ shape.
     board_back shape.1 >>= λ choose. Ok (board_spec n.0 t.0 shape.0 choose)
 
 -- ---- accesses
@@ -205,7 +217,9 @@ pub data Mode : Type 0 where
 abbrev pub word_line : Setup → Words → Result Mode SetupKind
 word_line setup ws =
     if is_empty setup.tables then
-    (if is_empty setup.boards then (value_line (length setup.memory) ws >>= λ a. Ok (body (with_word setup a.0 a.1))) else Err UnknownWord)
+    (if is_empty setup.boards
+    then (value_line (length setup.memory) ws >>= λ a. Ok (body (with_word setup a.0 a.1)))
+    else Err UnknownWord)
     else Err UnknownWord
 
 -- A name that no table has.
@@ -226,16 +240,22 @@ head_line tables ws = head_name tables ws >>= λ n. line_ends n.1 >>= λ _. Ok n
 
 abbrev pub table_head : Setup → Words → Result Mode SetupKind
 table_head setup ws =
-    if is_empty setup.boards then (head_line setup.tables ws >>= λ name. Ok (in_table setup (empty_table name))) else Err UnknownWord
+    if is_empty setup.boards
+    then (head_line setup.tables ws >>= λ name. Ok (in_table setup (empty_table name)))
+    else Err UnknownWord
 
 abbrev pub board_added : Setup → Words → Result Mode SetupKind
 board_added setup ws =
-    if nat_lt (length setup.boards) 16 then (board_line setup ws >>= λ spec. Ok (body (with_board setup spec))) else Err (Limit Boards 17)
+    if nat_lt (length setup.boards) 16
+    then (board_line setup ws >>= λ spec. Ok (body (with_board setup spec)))
+    else Err (Limit Boards 17)
 
 abbrev pub access_read : Setup → LocalEvent → Words → Result Mode SetupKind
 access_read setup event ws =
     if is_empty setup.boards then Err UnknownWord else
-    (if nat_lt (access_count setup) 100000 then (access_line (length setup.memory) event ws >>= λ access. Ok (body (with_access setup access)))
+    (if nat_lt (access_count setup) 100000
+    then (access_line (length setup.memory) event ws >>=
+    λ access. Ok (body (with_access setup access)))
     else Err (Limit Accesses 100001))
 
 abbrev pub end_line : Setup → Words → Result Mode SetupKind
@@ -258,7 +278,9 @@ body_line setup (w ∷ ws) =
 
 -- The first line.
 unfoldable pub first_line : Words → Result Mode SetupKind
-first_line ws = this_word (codes "memory") ws >>= λ after. memory_line after >>= λ lines. Ok (body (empty_setup lines))
+first_line ws =
+    this_word (codes "memory") ws >>=
+    λ after. memory_line after >>= λ lines. Ok (body (empty_setup lines))
 
 -- A line of a table, which may be its last.
 abbrev pub as_setup_kind : {X : Type 0} → Result X TableKind → Result X SetupKind
@@ -271,7 +293,8 @@ after_table_line setup t = if t.0 then body (with_table setup t.1) else in_table
 abbrev pub line_at : Mode → Words → Result Mode SetupKind
 line_at start ws = first_line ws
 line_at (body setup) ws = body_line setup ws
-line_at (in_table setup table) ws = as_setup_kind (table_line table ws) >>= λ t. Ok (after_table_line setup t)
+line_at (in_table setup table) ws =
+    as_setup_kind (table_line table ws) >>= λ t. Ok (after_table_line setup t)
 line_at (ended setup) ws = Err UnknownWord
 
 -- ---- lines
@@ -300,7 +323,8 @@ as_setup_fault (Err f) = Err (record { line = f.line; kind = kind_of f.kind })
 
 unfoldable pub whole_table : List Table → Unread → Result (Table × Unread) Fault
 whole_table tables u =
-    on_line u.line (head_name tables u.words) >>= λ n. as_setup_fault (table_at n.0 (record u { words = n.1 }))
+    on_line u.line (head_name tables u.words) >>=
+    λ n. as_setup_fault (table_at n.0 (record u { words = n.1 }))
 
 -- A whole setup.
 abbrev pub setup_at : Unread → Result Setup Fault
@@ -314,14 +338,17 @@ pub data BookMode : Type 0 where
   within : List Table → Table → BookMode
 
 abbrev pub book_head : List Table → Words → Result BookMode SetupKind
-book_head tables ws = this_word (codes "table") ws >>= λ after. head_line tables after >>= λ name. Ok (within tables (empty_table name))
+book_head tables ws =
+    this_word (codes "table") ws >>=
+    λ after. head_line tables after >>= λ name. Ok (within tables (empty_table name))
 
 abbrev pub after_book_line : List Table → Bool × Table → BookMode
 after_book_line tables t = if t.0 then whole (tables ++ t.1 ∷ []) else within tables t.1
 
 abbrev pub book_line : BookMode → Words → Result BookMode SetupKind
 book_line (whole tables) ws = book_head tables ws
-book_line (within tables table) ws = as_setup_kind (table_line table ws) >>= λ t. Ok (after_book_line tables t)
+book_line (within tables table) ws =
+    as_setup_kind (table_line table ws) >>= λ t. Ok (after_book_line tables t)
 
 -- The text ends: it may do so after a whole table.
 abbrev pub book_ends : BookMode → ℕ → Result (List Table) Fault
@@ -331,7 +358,8 @@ book_ends (within tables table) end = Err (record { line = end; kind = NoEnd })
 
 unfoldable pub book_lines : BookMode → List Line → ℕ → Result (List Table) Fault
 book_lines m [] end = book_ends m end
-book_lines m (l ∷ ls) end = on_line l.number (book_line m l.words) >>= λ next. book_lines next ls end
+book_lines m (l ∷ ls) end =
+    on_line l.number (book_line m l.words) >>= λ next. book_lines next ls end
 
 -- A whole text of tables.
 abbrev pub book_at : Unread → Result (List Table) Fault
@@ -354,7 +382,8 @@ places_on boards turns (w ∷ ws) = place_in boards w >>= λ p. places_on boards
 
 unfoldable pub schedule_lines : ℕ → List ℕ → List Line → Result (List ℕ) Fault
 schedule_lines boards turns [] = Ok turns
-schedule_lines boards turns (l ∷ ls) = on_line l.number (places_on boards turns l.words) >>= λ more. schedule_lines boards more ls
+schedule_lines boards turns (l ∷ ls) =
+    on_line l.number (places_on boards turns l.words) >>= λ more. schedule_lines boards more ls
 
 -- A whole schedule.
 abbrev pub schedule_at : ℕ → Unread → Result (List ℕ) Fault
@@ -366,13 +395,17 @@ abbrev pub FailsAs : {Y : Type 0} → SetupFault → Result Y Fault → Type 0
 FailsAs (faults.Bad line kind) read = read ≡ Err (record { line = line; kind = kind })
 FailsAs faults.NoMemory read = Unit {0}
 
--- What a table reader returned, with what the scan has yet to give, is what reading gives, unless memory ran out.
+-- What a table reader returned, with what the scan has yet to give, is what reading gives, unless
+-- memory ran out.
 abbrev pub GivesTable : Result Table SetupFault → Unread → Result (Table × Unread) Fault → Type 0
 GivesTable (Ok t) left read = read ≡ Ok (t, left)
 GivesTable (Err e) left read = FailsAs e read
 
--- What a function returned, seen by mode, leads on to the lines that are left, unless memory ran out.
-abbrev pub GoesOn : {X M R : Type 0} → (M → List Line → ℕ → Result R Fault) → (X → M) → Result X SetupFault → Unread → Result R Fault → Type 0
+-- What a function returned, seen by mode, leads on to the lines that are left, unless memory ran
+-- out.
+abbrev pub GoesOn :
+    {X M R : Type 0} → (M → List Line → ℕ → Result R Fault) → (X → M) → Result X SetupFault → Unread
+    → Result R Fault → Type 0
 GoesOn lines mode (Ok x) left read = read ≡ lines (mode x) left.lines left.end
 GoesOn lines mode (Err e) left read = FailsAs e read
 
@@ -382,7 +415,9 @@ mode_after setup true = ended setup
 mode_after setup false = body setup
 
 -- What a line that was begun and the lines after it give.
-abbrev pub then_lines : {M R : Type 0} → (M → List Line → ℕ → Result R Fault) → Unread → Result M SetupKind → Result R Fault
+abbrev pub then_lines :
+    {M R : Type 0} → (M → List Line → ℕ → Result R Fault) → Unread → Result M SetupKind
+    → Result R Fault
 then_lines lines u read = on_line u.line read >>= λ next. lines next u.lines u.end
 
 -- What a reader returned, seen by view, is what reading gives, unless memory ran out.

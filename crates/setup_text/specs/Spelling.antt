@@ -59,7 +59,8 @@ choose_words (Seed n) = codes "seed" ∷ decimal n ∷ []
 
 abbrev pub board_row : BoardText → Words
 board_row b =
-    codes "board" ∷ decimal b.place ∷ codes "number" ∷ decimal b.number ∷ codes "table" ∷ b.table ∷ (shape_words b.shape ++ codes "choose" ∷ choose_words b.choose)
+    codes "board" ∷ decimal b.place ∷ codes "number" ∷ decimal b.number ∷ codes "table" ∷ b.table
+    ∷ (shape_words b.shape ++ codes "choose" ∷ choose_words b.choose)
 
 abbrev pub access_row : Access → Words
 access_row (Read addr) = codes "read" ∷ decimal addr ∷ []
@@ -85,7 +86,9 @@ tables_rows tables = flat_map table_rows tables
 
 -- The lines of a setup before its `end` line.
 abbrev pub open_rows : SetupText → List Words
-open_rows s = memory_row s.lines ∷ (map word_row s.words ++ (tables_rows s.tables ++ flat_map board_rows s.boards))
+open_rows s =
+    memory_row s.lines
+    ∷ (map word_row s.words ++ (tables_rows s.tables ++ flat_map board_rows s.boards))
 
 abbrev pub setup_rows : SetupText → List Words
 setup_rows s = open_rows s ++ end_row ∷ []

@@ -2,7 +2,7 @@
 use Rattle.std.specs.Prelude.{◌≡◌, ◌≢◌, ℕ, ◌+◌, ◌*◌, ◌<◌, ◌≤◌, List, [], ◌∷◌, length, AllPairs}
 use Rattle.std.specs.List.{AllByRecursion}
 use Rattle.class_relation.specs.Tables.{Table, empty_table}
-use Rattle.table_check.specs.Setup.{WellFormed}
+use Rattle.setup.specs.Setup.{WellFormed}
 use Rattle.table_text.specs.Correct.{AllStand}
 use Rattle.setup_text.specs.Spelling.{TableText, BoardText, SetupText, SetupFits, TableFits, BookFits}
 use Rattle.setup_text.specs.Values.{tables_of, setup_of}

@@ -4,7 +4,7 @@ use Rattle.std.specs.List.{flat_map}
 use Rattle.std.specs.Str.{bytes_eq}
 use Rattle.class_relation.specs.Tables.{Table}
 use Rattle.table_check.specs.declared.boards.BoardSpec.{BoardSpec}
-use Rattle.table_check.specs.Setup.{Setup}
+use Rattle.setup.specs.Setup.{Setup}
 use Rattle.table_text.specs.Spelling.{table_of}
 use Rattle.setup_text.specs.Spelling.{TableText, BoardText, SetupText}
 
@@ -31,7 +31,13 @@ place_of (t ∷ tables) name = if bytes_eq name t.name then 0 else place_of tabl
 
 -- A board, among these tables.
 abbrev pub board_of : List Table → BoardText → BoardSpec
-board_of tables b = record { number = b.number; table = place_of tables b.table; shape = b.shape; choose = b.choose }
+board_of tables b =
+    record {
+      number = b.number;
+      table = place_of tables b.table;
+      shape = b.shape;
+      choose = b.choose;
+    }
 
 -- The setup that is written.
 abbrev pub setup_of : SetupText → Setup

@@ -8,17 +8,19 @@ use Rattle.fb_text.specs.Written.{lines_bytes}
 use Rattle.bus_signals.specs.declared.Access.{Access}
 use Rattle.class_relation.specs.Tables.{Table, empty_table, IsWhole}
 use Rattle.table_check.specs.declared.boards.BoardSpec.{BoardSpec}
-use Rattle.table_check.specs.Setup.{Setup, WellFormed, line_count, access_count}
+use Rattle.setup.specs.Setup.{Setup, WellFormed, line_count, access_count}
 use Rattle.table_text.specs.Writing.{cells_of, table_room}
 use Rattle.setup_text.specs.declared.fault.SetupKind.TheVariants.{UnknownWord}
 use Rattle.setup_text.specs.declared.fault.SetupFault.{SetupFault}
 use Rattle.setup_text.specs.declared.fault.SetupFault.TheVariants as faults
 use Rattle.setup_text.specs.Spelling.{TableText, BoardText, SetupText, setup_rows, ChooseFits, AccessFits}
 
--- The words that are not 0, each with its address, in address order. The first word of the list has this address.
+-- The words that are not 0, each with its address, in address order. The first word of the list has
+-- this address.
 abbrev pub words_from : ℕ → List ℕ → List (ℕ × ℕ)
 words_from addr [] = []
-words_from addr (w ∷ ws) = if nat_eq w 0 then words_from (addr + 1) ws else (addr, w) ∷ words_from (addr + 1) ws
+words_from addr (w ∷ ws) =
+    if nat_eq w 0 then words_from (addr + 1) ws else (addr, w) ∷ words_from (addr + 1) ws
 
 -- A table, with its cells in cell order.
 abbrev pub text_of_table : Table → TableText
@@ -35,11 +37,14 @@ text_of_board tables place b script = record {
   script = script;
 }
 
--- The boards, each with its script, in order of their places. The first board of the list has this place.
+-- The boards, each with its script, in order of their places. The first board of the list has this
+-- place.
 abbrev pub boards_from : List Table → ℕ → List BoardSpec → List (List Access) → List BoardText
 boards_from tables place [] scripts = []
-boards_from tables place (b ∷ bs) [] = text_of_board tables place b [] ∷ boards_from tables (place + 1) bs []
-boards_from tables place (b ∷ bs) (s ∷ ss) = text_of_board tables place b s ∷ boards_from tables (place + 1) bs ss
+boards_from tables place (b ∷ bs) [] =
+    text_of_board tables place b [] ∷ boards_from tables (place + 1) bs []
+boards_from tables place (b ∷ bs) (s ∷ ss) =
+    text_of_board tables place b s ∷ boards_from tables (place + 1) bs ss
 
 -- A setup, with only the words that are not 0.
 abbrev pub text_of : Setup → SetupText
@@ -54,11 +59,15 @@ text_of s = record {
 unfoldable pub written_setup : Setup → List ℕ
 written_setup s = lines_bytes (setup_rows (text_of s))
 
--- The room that is taken for it: each line of numbers has at most 48 bytes, and each board line 176.
+-- The room that is taken for it: each line of numbers has at most 48 bytes, and each board line
+-- 176.
 abbrev pub setup_room : Setup → ℕ
-setup_room s = 32 + 48 * length s.memory + table_room * length s.tables + 176 * length s.boards + 48 * access_count s
+setup_room s =
+    32 + 48 * length s.memory + table_room * length s.tables + 176 * length s.boards
+    + 48 * access_count s
 
--- What holds of every setup of the program: it is within its limits, its tables are whole, and its numbers are in the ranges of their types.
+-- What holds of every setup of the program: it is within its limits, its tables are whole, and its
+-- numbers are in the ranges of their types.
 pub record IsWholeSetup (s : Setup) : Type 0 where
   pub sound : WellFormed s
   pub tables : AllByRecursion IsWhole s.tables
@@ -71,9 +80,11 @@ lines_behind s rest = numbered (length (setup_rows (text_of s)) + 1) (lines rest
 
 -- The places of these lines.
 abbrev pub places_behind : Setup → List ℕ → List Item
-places_behind s rest = items (lines_places (lines_behind s rest) (unread (written_setup s ++ rest)).end)
+places_behind s rest =
+    items (lines_places (lines_behind s rest) (unread (written_setup s ++ rest)).end)
 
--- What reading answers where these lines follow a written setup: the setup where there are none, and else a fault at the first word of the first line, unless memory runs out.
+-- What reading answers where these lines follow a written setup: the setup where there are none,
+-- and else a fault at the first word of the first line, unless memory runs out.
 abbrev pub IsReadBefore : List Line → Result Setup SetupFault → Setup → Type 0
 IsReadBefore ls (Err faults.NoMemory) s = Unit {0}
 IsReadBefore [] (Ok r) s = r ≡ s

@@ -2,7 +2,7 @@
 
 ghost use Rattle.std.specs.Prelude.{◌≡◌, ◌<◌, ◌≤◌, ◌*◌, true, false, map, length, IfOk};
 ghost use Rattle.table_text.specs.Reading.{StaysOnLine};
-ghost use Rattle.table_check.specs.Setup.{BoardFits};
+ghost use Rattle.setup.specs.Setup.{BoardFits};
 ghost use Rattle.setup_text.specs.Drafts.{IsKnown, IsShape};
 ghost use Rattle.setup_text.specs.Reading.{Gives, number_at, choose_at, frames_at, shape_at, place_at, has_number, board_number_at, table_name_at, board_front, board_table, board_back, board_line};
 
@@ -17,7 +17,8 @@ use table_check::{BoardSpec, Choose, Shape};
 /// Reads how a board chooses.
 #[tactic(auto, unfolding(crate::specs::Reading::choose_at))]
 fn choose(scan: &mut Scan) -> Result<Choose, SetupFault>
-    ensures value { Gives (λ c. (c, scan.new.words)) result scan.old.line (choose_at scan.old.words) }
+    ensures value { Gives (λ c. (c, scan.new.words)) result scan.old.line
+        (choose_at scan.old.words) }
     ensures stays { StaysOnLine scan.old scan.new }
 {
     let Some(word) = scan.next_word() else {
@@ -39,7 +40,8 @@ fn choose(scan: &mut Scan) -> Result<Choose, SetupFault>
 /// Reads the sets and ways after the word `cached`.
 #[tactic(auto, unfolding(crate::specs::Reading::frames_at))]
 fn frames(scan: &mut Scan) -> Result<Shape, SetupFault>
-    ensures value { Gives (λ s. (s, scan.new.words)) result scan.old.line (frames_at scan.old.words) }
+    ensures value { Gives (λ s. (s, scan.new.words)) result scan.old.line
+        (frames_at scan.old.words) }
     ensures fits { IfOk result (IsShape false) }
     ensures stays { StaysOnLine scan.old scan.new }
 {
@@ -58,7 +60,8 @@ fn frames(scan: &mut Scan) -> Result<Shape, SetupFault>
 /// Reads the cache of a board. `plain` says whether its table reaches no state but I.
 #[tactic(auto, unfolding(crate::specs::Reading::shape_at))]
 fn shape(scan: &mut Scan, plain: bool) -> Result<Shape, SetupFault>
-    ensures value { Gives (λ s. (s, scan.new.words)) result scan.old.line (shape_at plain scan.old.words) }
+    ensures value { Gives (λ s. (s, scan.new.words)) result scan.old.line
+        (shape_at plain scan.old.words) }
     ensures fits { IfOk result (IsShape plain) }
     ensures stays { StaysOnLine scan.old scan.new }
 {
@@ -81,7 +84,8 @@ fn shape(scan: &mut Scan, plain: bool) -> Result<Shape, SetupFault>
 #[tactic(auto, unfolding(crate::specs::Reading::place_at))]
 fn place(scan: &mut Scan, boards: u64) -> Result<(), SetupFault>
     requires { boards ≤ 16 }
-    ensures value { Gives (λ _. scan.new.words) result scan.old.line (place_at boards scan.old.words) }
+    ensures value { Gives (λ _. scan.new.words) result scan.old.line
+        (place_at boards scan.old.words) }
     ensures stays { StaysOnLine scan.old scan.new }
 {
     let place = number(scan, 4294967295)?;
@@ -101,7 +105,8 @@ fn has_number(boards: &[BoardSpec], number: u16) -> bool
 /// Reads a number that no board has yet.
 #[tactic(auto, unfolding(crate::specs::Reading::board_number_at))]
 fn board_number(scan: &mut Scan, boards: &[BoardSpec]) -> Result<u16, SetupFault>
-    ensures value { Gives (λ n. (n, scan.new.words)) result scan.old.line (board_number_at boards.now scan.old.words) }
+    ensures value { Gives (λ n. (n, scan.new.words)) result scan.old.line
+        (board_number_at boards.now scan.old.words) }
     ensures least { IfOk result (λ n. 1 ≤ n) }
     ensures most { IfOk result (λ n. n ≤ 255) }
     ensures new { IfOk result (λ n. has_number boards.now n ≡ false) }
@@ -118,7 +123,8 @@ fn board_number(scan: &mut Scan, boards: &[BoardSpec]) -> Result<u16, SetupFault
 #[tactic(auto, unfolding(crate::specs::Reading::board_front))]
 fn front(scan: &mut Scan, boards: &[BoardSpec]) -> Result<u16, SetupFault>
     requires { length boards.now ≤ 16 }
-    ensures value { Gives (λ n. (n, scan.new.words)) result scan.old.line (board_front boards.now scan.old.words) }
+    ensures value { Gives (λ n. (n, scan.new.words)) result scan.old.line
+        (board_front boards.now scan.old.words) }
     ensures least { IfOk result (λ n. 1 ≤ n) }
     ensures most { IfOk result (λ n. n ≤ 255) }
     ensures new { IfOk result (λ n. has_number boards.now n ≡ false) }
@@ -132,7 +138,8 @@ fn front(scan: &mut Scan, boards: &[BoardSpec]) -> Result<u16, SetupFault>
 /// Reads the name of a table. Answers its place, and whether the table reaches no state but I.
 #[tactic(auto, unfolding(crate::specs::Reading::table_name_at))]
 fn table_name(scan: &mut Scan, tables: &Tables) -> Result<(u32, bool), SetupFault>
-    ensures value { Gives (λ t. (t.0, t.1, scan.new.words)) result scan.old.line (table_name_at tables.now scan.old.words) }
+    ensures value { Gives (λ t. (t.0, t.1, scan.new.words)) result scan.old.line
+        (table_name_at tables.now scan.old.words) }
     ensures known { IfOk result (IsKnown tables.now) }
     ensures stays { StaysOnLine scan.old scan.new }
 {
@@ -146,7 +153,8 @@ fn table_name(scan: &mut Scan, tables: &Tables) -> Result<(u32, bool), SetupFaul
 /// Reads the word `table` and the name of a table.
 #[tactic(auto, unfolding(crate::specs::Reading::board_table))]
 fn table(scan: &mut Scan, tables: &Tables) -> Result<(u32, bool), SetupFault>
-    ensures value { Gives (λ t. (t.0, t.1, scan.new.words)) result scan.old.line (board_table tables.now scan.old.words) }
+    ensures value { Gives (λ t. (t.0, t.1, scan.new.words)) result scan.old.line
+        (board_table tables.now scan.old.words) }
     ensures known { IfOk result (IsKnown tables.now) }
     ensures stays { StaysOnLine scan.old scan.new }
 {

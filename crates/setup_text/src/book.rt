@@ -19,7 +19,8 @@ use std::alloc::Global;
 
 /// Reads one more table.
 fn table_lines(alloc: Global, scan: &mut Scan, tables: &mut Tables) -> Result<(), SetupFault>
-    ensures exact { GoesOn book_lines (λ _. BookMode.whole tables.new) result scan.new (then_lines book_lines scan.old (book_head tables.old scan.old.words)) }
+    ensures exact { GoesOn book_lines (λ _. BookMode.whole tables.new) result scan.new
+        (then_lines book_lines scan.old (book_head tables.old scan.old.words)) }
     ensures shorter { OnOk result (length scan.new.lines ≤ length scan.old.lines) }
 {
     this_word(scan, "table")?;
@@ -49,7 +50,9 @@ pub fn read_book(alloc: Global, bytes: &[u8]) -> Result<Vec<Table>, SetupFault>
     // The text spells the tables that were read.
     ensures spelled { IfOk result (λ v. IsBook bytes.now v.items) }
     // Tables that the text spells are read.
-    ensures only { (tables : List TableText) → BookStands tables → items (text_places bytes.now) ≡ book_items tables → IsReadAs (λ v. v.items) result (tables_of tables) }
+    ensures only { (tables : List TableText) → BookStands tables
+        → items (text_places bytes.now) ≡ book_items tables
+        → IsReadAs (λ v. v.items) result (tables_of tables) }
     // A fault has the line and the kind of the first place at fault.
     ensures first { IfErr result (IsFirstFault book_grammar bytes.now) }
     // Which tables or which fault it is.

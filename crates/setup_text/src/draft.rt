@@ -3,7 +3,7 @@
 ghost use Rattle.std.specs.Prelude.{◌≡◌, ◌<◌, ◌≤◌, ◌*◌, false, map, length, None, OnOk, OnErr, IfOk};
 ghost use Rattle.bus_signals.specs.Accesses.{address_of};
 ghost use Rattle.class_relation.specs.Rows.{rows};
-ghost use Rattle.table_check.specs.Setup.{BoardFits, access_count};
+ghost use Rattle.setup.specs.Setup.{BoardFits, access_count};
 ghost use Rattle.setup_text.specs.Drafts.{empty_setup, with_word, with_table, with_board, with_access, access_added, named, found_name, IsDraft};
 ghost use Rattle.setup_text.specs.Reading.{has_number};
 
@@ -30,7 +30,7 @@ pub struct Draft {
 impl Model for Draft {
     ghost use Rattle.std.specs.Prelude.{◌≡◌};
     ghost use Rattle.class_relation.specs.Rows.{rows};
-    ghost use Rattle.table_check.specs.Setup.{Setup, access_count};
+    ghost use Rattle.setup.specs.Setup.{Setup, access_count};
     ghost use Rattle.setup_text.specs.Drafts.{IsDraft};
 
     ghost Value = { Setup };
@@ -44,7 +44,8 @@ impl Model for Draft {
 /// Appends an access to the last script.
 fn add_access(scripts: &mut Vec<Vec<Access>>, access: Access) -> Result<(), NoMemory>
     requires { 1 ≤ length scripts.old.items }
-    ensures ok { OnOk result (rows scripts.new.items ≡ access_added (rows scripts.old.items) access) }
+    ensures ok { OnOk result
+        (rows scripts.new.items ≡ access_added (rows scripts.old.items) access) }
     ensures err { OnErr result (rows scripts.new.items ≡ rows scripts.old.items) }
 {
     let last = scripts.len() - 1;

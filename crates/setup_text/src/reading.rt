@@ -4,7 +4,7 @@ ghost use Rattle.std.specs.Prelude.{◌≡◌, ◌<◌, ◌≤◌, ◌^◌, ◌�
 ghost use Rattle.std.specs.Str.{bytes_eq};
 ghost use Rattle.fb_text.specs.Places.{items, text_places};
 ghost use Rattle.fb_text.specs.Unread.{unread};
-ghost use Rattle.table_check.specs.Setup.{Setup};
+ghost use Rattle.setup.specs.Setup.{Setup};
 ghost use Rattle.table_text.specs.Reading.{StaysOnLine};
 ghost use Rattle.setup_text.specs.Spelling.{SetupText, setup_items};
 ghost use Rattle.setup_text.specs.Values.{setup_of};
@@ -26,7 +26,8 @@ use std::alloc::Global;
 
 /// Reads a `word` line after its first word.
 fn word_line(scan: &mut Scan, draft: &mut Draft) -> Result<(), SetupFault>
-    ensures value { Gives (λ _. Mode.body draft.new) result scan.old.line (word_line draft.old scan.old.words) }
+    ensures value { Gives (λ _. Mode.body draft.new) result scan.old.line
+        (word_line draft.old scan.old.words) }
     ensures stays { StaysOnLine scan.old scan.new }
 {
     if draft.tables().len() > 0 || draft.boards().len() > 0 {
@@ -39,7 +40,8 @@ fn word_line(scan: &mut Scan, draft: &mut Draft) -> Result<(), SetupFault>
 
 /// Reads a table after its first word.
 fn table_lines(alloc: Global, scan: &mut Scan, draft: &mut Draft) -> Result<(), SetupFault>
-    ensures exact { GoesOn lines_at (λ _. Mode.body draft.new) result scan.new (then_lines lines_at scan.old (table_head draft.old scan.old.words)) }
+    ensures exact { GoesOn lines_at (λ _. Mode.body draft.new) result scan.new
+        (then_lines lines_at scan.old (table_head draft.old scan.old.words)) }
     ensures shorter { OnOk result (length scan.new.lines ≤ length scan.old.lines) }
 {
     if draft.boards().len() > 0 {
@@ -52,7 +54,8 @@ fn table_lines(alloc: Global, scan: &mut Scan, draft: &mut Draft) -> Result<(), 
 
 /// Reads a board line after its first word.
 fn board_line(scan: &mut Scan, draft: &mut Draft) -> Result<(), SetupFault>
-    ensures value { Gives (λ _. Mode.body draft.new) result scan.old.line (board_added draft.old scan.old.words) }
+    ensures value { Gives (λ _. Mode.body draft.new) result scan.old.line
+        (board_added draft.old scan.old.words) }
     ensures stays { StaysOnLine scan.old scan.new }
 {
     if draft.boards().len() >= 16 {
@@ -65,7 +68,8 @@ fn board_line(scan: &mut Scan, draft: &mut Draft) -> Result<(), SetupFault>
 
 /// Reads an access after its first word.
 fn access_line(scan: &mut Scan, draft: &mut Draft, event: LocalEvent) -> Result<(), SetupFault>
-    ensures value { Gives (λ _. Mode.body draft.new) result scan.old.line (access_read draft.old event scan.old.words) }
+    ensures value { Gives (λ _. Mode.body draft.new) result scan.old.line
+        (access_read draft.old event scan.old.words) }
     ensures stays { StaysOnLine scan.old scan.new }
 {
     if draft.boards().is_empty() {
@@ -81,7 +85,8 @@ fn access_line(scan: &mut Scan, draft: &mut Draft, event: LocalEvent) -> Result<
 
 /// Reads the `end` line after its first word.
 fn end_line(scan: &mut Scan, draft: &Draft) -> Result<(), SetupFault>
-    ensures value { Gives (λ _. Mode.ended draft.now) result scan.old.line (end_line draft.now scan.old.words) }
+    ensures value { Gives (λ _. Mode.ended draft.now) result scan.old.line
+        (end_line draft.now scan.old.words) }
     ensures some { OnOk result (1 ≤ length draft.now.boards) }
     ensures stays { StaysOnLine scan.old scan.new }
 {
@@ -95,7 +100,8 @@ fn end_line(scan: &mut Scan, draft: &Draft) -> Result<(), SetupFault>
 #[tactic(auto, unfolding(crate::specs::Reading::body_line))]
 fn part(alloc: Global, scan: &mut Scan, draft: &mut Draft, word: &[u8]) -> Result<(), SetupFault>
     requires { bytes_eq word.now (codes "end") ≡ false }
-    ensures exact { GoesOn lines_at (λ _. Mode.body draft.new) result scan.new (then_lines lines_at scan.old (body_line draft.old (word.now ∷ scan.old.words))) }
+    ensures exact { GoesOn lines_at (λ _. Mode.body draft.new) result scan.new
+        (then_lines lines_at scan.old (body_line draft.old (word.now ∷ scan.old.words))) }
     ensures shorter { OnOk result (length scan.new.lines ≤ length scan.old.lines) }
 {
     if is(word, "word") {
@@ -116,7 +122,8 @@ fn part(alloc: Global, scan: &mut Scan, draft: &mut Draft, word: &[u8]) -> Resul
 /// Reads one line or one table. Answers whether it was the `end` line.
 #[tactic(auto, unfolding(crate::specs::Reading::body_line))]
 fn line(alloc: Global, scan: &mut Scan, draft: &mut Draft) -> Result<bool, SetupFault>
-    ensures exact { GoesOn lines_at (mode_after draft.new) result scan.new (then_lines lines_at scan.old (body_line draft.old scan.old.words)) }
+    ensures exact { GoesOn lines_at (mode_after draft.new) result scan.new
+        (then_lines lines_at scan.old (body_line draft.old scan.old.words)) }
     ensures shorter { OnOk result (length scan.new.lines ≤ length scan.old.lines) }
     ensures some { IfOk result (λ ended. ended ≡ true → 1 ≤ length draft.new.boards) }
 {
@@ -184,9 +191,11 @@ pub fn read_setup(alloc: Global, bytes: &[u8]) -> Result<Setup, SetupFault>
     // The text spells the setup that was read.
     ensures spelled { IfOk result (IsSetup bytes.now) }
     // A setup that the text spells is read.
-    ensures only { (s : SetupText) → SetupStands s → items (text_places bytes.now) ≡ setup_items s → IsReadAs (λ x. x) result (setup_of s) }
+    ensures only { (s : SetupText) → SetupStands s → items (text_places bytes.now) ≡ setup_items s
+        → IsReadAs (λ x. x) result (setup_of s) }
     // A setup that was written is read back. Only a word after it is at fault.
-    ensures written { (s : Setup) (rest : List ℕ) → IsWholeSetup s → bytes.now ≡ written_setup s ++ rest → IsReadBefore (lines_behind s rest) result s }
+    ensures written { (s : Setup) (rest : List ℕ) → IsWholeSetup s
+        → bytes.now ≡ written_setup s ++ rest → IsReadBefore (lines_behind s rest) result s }
     // A fault has the line and the kind of the first place at fault.
     ensures first { IfErr result (IsFirstFault setup_grammar bytes.now) }
     // Which setup or which fault it is.

@@ -27,7 +27,8 @@ fn place(scan: &Scan, word: &[u8], boards: u8) -> Result<u8, SetupFault>
 
 /// Reads the places on a line.
 fn places(scan: &mut Scan, boards: u8, turns: &mut Vec<u8>) -> Result<(), SetupFault>
-    ensures value { Gives (λ _. turns.new.items) result scan.old.line (places_on boards turns.old.items scan.old.words) }
+    ensures value { Gives (λ _. turns.new.items) result scan.old.line
+        (places_on boards turns.old.items scan.old.words) }
     ensures stays { StaysOnLine scan.old scan.new }
 {
     while let Some(word) = scan.next_word() {
@@ -59,7 +60,9 @@ pub fn read_schedule(alloc: Global, bytes: &[u8], boards: u8) -> Result<Vec<u8>,
     // The text spells the places that were read.
     ensures spelled { IfOk result (λ v. IsSchedule boards bytes.now v.items) }
     // Places that the text spells are read.
-    ensures only { (lines : List (List ℕ)) → ScheduleFits boards lines → items (text_places bytes.now) ≡ schedule_items lines → IsReadAs (λ v. v.items) result (turns_of lines) }
+    ensures only { (lines : List (List ℕ)) → ScheduleFits boards lines
+        → items (text_places bytes.now) ≡ schedule_items lines
+        → IsReadAs (λ v. v.items) result (turns_of lines) }
     // Each is the place of a board.
     ensures places { IfOk result (λ v. ArePlaces boards v.items) }
     // A fault has the line and the kind of the first place at fault.

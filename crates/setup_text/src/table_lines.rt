@@ -33,7 +33,8 @@ fn kind_of(kind: TableKind) -> SetupKind
 /// Reads the name of one more table.
 #[tactic(auto, unfolding(crate::specs::Reading::head_name))]
 fn new_name(scan: &mut Scan, tables: &Tables) -> Result<Name, SetupFault>
-    ensures value { Gives (λ n. (n, scan.new.words)) result scan.old.line (head_name tables.now scan.old.words) }
+    ensures value { Gives (λ n. (n, scan.new.words)) result scan.old.line
+        (head_name tables.now scan.old.words) }
     ensures few { OnOk result (length tables.now < 16) }
     ensures new { IfOk result (λ n. found_name (map named tables.now) n ≡ None) }
     ensures stays { StaysOnLine scan.old scan.new }

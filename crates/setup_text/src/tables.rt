@@ -41,7 +41,9 @@ fn can_reach(table: &Table, state: State) -> bool
 
 /// Whether a table reaches a state other than I.
 fn is_cached(table: &Table) -> bool
-    ensures { result ≡ (is_reached table.now M || is_reached table.now O || is_reached table.now E || is_reached table.now S) }
+    ensures { result
+        ≡ (is_reached table.now M || is_reached table.now O || is_reached table.now E
+        || is_reached table.now S) }
 {
     can_reach(table, State::M)
         || can_reach(table, State::O)

@@ -31,7 +31,8 @@ pub fn limit(scan: &Scan, of: LimitOf, count: u64) -> SetupFault
 
 /// Reads a number of at most `max`.
 pub fn number(scan: &mut Scan, max: u64) -> Result<u64, SetupFault>
-    ensures value { Gives (λ n. (n, scan.new.words)) result scan.old.line (number_at max scan.old.words) }
+    ensures value { Gives (λ n. (n, scan.new.words)) result scan.old.line
+        (number_at max scan.old.words) }
     ensures most { IfOk result (λ n. n ≤ max) }
     ensures stays { StaysOnLine scan.old scan.new }
 {
@@ -44,7 +45,8 @@ pub fn number(scan: &mut Scan, max: u64) -> Result<u64, SetupFault>
 /// Reads a number from 1 to `max`.
 #[tactic(auto, unfolding(crate::specs::Reading::number_from_one))]
 pub fn number_from_one(scan: &mut Scan, max: u64) -> Result<u64, SetupFault>
-    ensures value { Gives (λ n. (n, scan.new.words)) result scan.old.line (number_from_one max scan.old.words) }
+    ensures value { Gives (λ n. (n, scan.new.words)) result scan.old.line
+        (number_from_one max scan.old.words) }
     ensures least { IfOk result (λ n. 1 ≤ n) }
     ensures most { IfOk result (λ n. n ≤ max) }
     ensures stays { StaysOnLine scan.old scan.new }
@@ -58,7 +60,8 @@ pub fn number_from_one(scan: &mut Scan, max: u64) -> Result<u64, SetupFault>
 
 /// Reads the word `text`.
 pub fn this_word(scan: &mut Scan, text: &str) -> Result<(), SetupFault>
-    ensures value { Gives (λ _. scan.new.words) result scan.old.line (this_word text.now scan.old.words) }
+    ensures value { Gives (λ _. scan.new.words) result scan.old.line
+        (this_word text.now scan.old.words) }
     ensures stays { StaysOnLine scan.old scan.new }
 {
     match scan.next_word() {
@@ -112,7 +115,8 @@ pub fn memory_lines(scan: &mut Scan) -> Result<u32, SetupFault>
 /// Reads an address below a bound.
 #[tactic(auto, unfolding(crate::specs::Reading::address_at))]
 fn address(scan: &mut Scan, bound: u32) -> Result<u32, SetupFault>
-    ensures value { Gives (λ a. (a, scan.new.words)) result scan.old.line (address_at bound scan.old.words) }
+    ensures value { Gives (λ a. (a, scan.new.words)) result scan.old.line
+        (address_at bound scan.old.words) }
     ensures within { IfOk result (λ a. a < bound) }
     ensures stays { StaysOnLine scan.old scan.new }
 {

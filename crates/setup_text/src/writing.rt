@@ -6,7 +6,7 @@ ghost use Rattle.fb_text.specs.Places.{items, lines_items, text_places};
 ghost use Rattle.fb_text.specs.Written.{after_words, line_bytes, lines_bytes};
 ghost use Rattle.class_relation.specs.Tables.{IsWhole};
 ghost use Rattle.table_check.specs.declared.boards.BoardSpec.{BoardSpec};
-ghost use Rattle.table_check.specs.Setup.{access_count};
+ghost use Rattle.setup.specs.Setup.{access_count};
 ghost use Rattle.table_text.specs.Writing.{table_room};
 ghost use Rattle.setup_text.specs.Spelling.{word_row, board_row, access_row, shape_words, choose_words, tables_rows, board_rows, setup_rows, AccessFits, ChooseFits};
 ghost use Rattle.setup_text.specs.Correct.{IsSetup};
@@ -56,7 +56,8 @@ fn line_of_one(text: &mut Text, name: &[u8], value: u64)
 #[tactic(auto, using(crate::proofs::Writes::two_written))]
 fn line_of_two(text: &mut Text, name: &[u8], first: u64, second: u64)
     requires { length name.now + 43 ≤ text.old.spare }
-    ensures bytes { text.new.bytes ≡ text.old.bytes ++ line_bytes (name.now ∷ decimal first ∷ decimal second ∷ []) }
+    ensures bytes { text.new.bytes
+        ≡ text.old.bytes ++ line_bytes (name.now ∷ decimal first ∷ decimal second ∷ []) }
     ensures spare { text.old.spare ≤ text.new.spare + length name.now + 43 }
 {
     text.push(name);
@@ -68,7 +69,8 @@ fn line_of_two(text: &mut Text, name: &[u8], first: u64, second: u64)
 /// Appends a line for each word of memory that is not 0.
 fn word_lines(text: &mut Text, memory: &[u32])
     requires { 48 * length memory.now ≤ text.old.spare }
-    ensures bytes { text.new.bytes ≡ text.old.bytes ++ lines_bytes (map word_row (words_from 0 memory.now)) }
+    ensures bytes { text.new.bytes
+        ≡ text.old.bytes ++ lines_bytes (map word_row (words_from 0 memory.now)) }
     ensures spare { text.old.spare ≤ text.new.spare + 48 * length memory.now }
 {
     for (addr, value) in memory.iter().enumerate() {
@@ -81,7 +83,8 @@ fn word_lines(text: &mut Text, memory: &[u32])
 /// Appends the tables in order.
 fn all_tables(text: &mut Text, tables: &[Table])
     requires { table_room * length tables.now ≤ text.old.spare }
-    ensures bytes { text.new.bytes ≡ text.old.bytes ++ lines_bytes (tables_rows (map text_of_table tables.now)) }
+    ensures bytes { text.new.bytes
+        ≡ text.old.bytes ++ lines_bytes (tables_rows (map text_of_table tables.now)) }
     ensures spare { text.old.spare ≤ text.new.spare + table_room * length tables.now }
     ensures whole { AllByRecursion IsWhole tables.now }
 {
@@ -127,7 +130,16 @@ fn choose(text: &mut Text, choose: Choose)
 fn board_line(text: &mut Text, place: u64, board: &BoardSpec, table: &[u8])
     requires name { length table.now ≤ 32 }
     requires room { 176 ≤ text.old.spare }
-    ensures bytes { text.new.bytes ≡ text.old.bytes ++ line_bytes (board_row (record { place = place; number = board.now.number; table = table.now; shape = board.now.shape; choose = board.now.choose; script = [] })) }
+    ensures bytes { text.new.bytes
+        ≡ text.old.bytes
+        ++ line_bytes (board_row (record {
+          place = place;
+          number = board.now.number;
+          table = table.now;
+          shape = board.now.shape;
+          choose = board.now.choose;
+          script = [];
+        })) }
     ensures spare { text.old.spare ≤ text.new.spare + 176 }
     ensures fits { ChooseFits board.now.choose }
 {
@@ -175,7 +187,9 @@ fn access_lines(text: &mut Text, script: &[Access])
 fn one_board(text: &mut Text, tables: &[Table], place: u64, spec: &BoardSpec, accesses: &[Access])
     requires table { spec.now.table < length tables.now }
     requires room { 176 + 48 * length accesses.now ≤ text.old.spare }
-    ensures bytes { text.new.bytes ≡ text.old.bytes ++ lines_bytes (board_rows (text_of_board tables.now place spec.now accesses.now)) }
+    ensures bytes { text.new.bytes
+        ≡ text.old.bytes
+        ++ lines_bytes (board_rows (text_of_board tables.now place spec.now accesses.now)) }
     ensures spare { text.old.spare ≤ text.new.spare + 176 + 48 * length accesses.now }
     ensures choose { ChooseFits spec.now.choose }
     ensures script { AllByRecursion AccessFits accesses.now }
@@ -188,8 +202,12 @@ fn one_board(text: &mut Text, tables: &[Table], place: u64, spec: &BoardSpec, ac
 /// Appends the boards in order of their places, each with its script.
 fn all_boards(text: &mut Text, setup: &Setup)
     requires { 176 * length setup.now.boards + 48 * access_count setup.now ≤ text.old.spare }
-    ensures bytes { text.new.bytes ≡ text.old.bytes ++ lines_bytes (flat_map board_rows (boards_from setup.now.tables 1 setup.now.boards setup.now.scripts)) }
-    ensures spare { text.old.spare ≤ text.new.spare + (176 * length setup.now.boards + 48 * access_count setup.now) }
+    ensures bytes { text.new.bytes
+        ≡ text.old.bytes
+        ++ lines_bytes (flat_map board_rows
+        (boards_from setup.now.tables 1 setup.now.boards setup.now.scripts)) }
+    ensures spare { text.old.spare
+        ≤ text.new.spare + (176 * length setup.now.boards + 48 * access_count setup.now) }
     ensures chooses { AllByRecursion (λ (b : BoardSpec). ChooseFits b.choose) setup.now.boards }
     ensures scripts { AllByRecursion (AllByRecursion AccessFits) setup.now.scripts }
 {
@@ -220,7 +238,9 @@ pub fn write_setup(setup: &Setup, text: &mut Text) -> Result<(), NoMemory>
     // The spelling is a text of this setup.
     ensures spelled { OnOk result (IsSetup (written_setup setup.now) setup.now) }
     // Whatever follows the spelling, its lines stand in the text as they were written, and after them what follows.
-    ensures goes_on { OnOk result ((rest : List ℕ) → items (text_places (written_setup setup.now ++ rest)) ≡ lines_items (setup_rows (text_of setup.now)) ++ places_behind setup.now rest) }
+    ensures goes_on { OnOk result ((rest : List ℕ)
+        → items (text_places (written_setup setup.now ++ rest))
+        ≡ lines_items (setup_rows (text_of setup.now)) ++ places_behind setup.now rest) }
     ensures err { OnErr result (text.new ≡ text.old) }
 {
     text.reserve(room(setup))?;

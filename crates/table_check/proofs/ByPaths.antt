@@ -24,12 +24,15 @@ not_empty (x ∷ xs) h e = cc
 
 permitted_cell : (table : Table) → InClass table → (cell : Cell) → AllPermitted table cell
 permitted_cell table accepted (Cell.Local state event) =
-    All-from_recursion (λ action. is_permitted_local state event action ≡ true) (locals_of table state event) (permitted_locals table state event accepted)
+    All-from_recursion (λ action. is_permitted_local state event action ≡ true) (locals_of table state event)
+    (permitted_locals table state event accepted)
 permitted_cell table accepted (Cell.Answer state event) =
-    All-from_recursion (λ action. is_permitted_answer state event action ≡ true) (answers_of table state event) (permitted_answers table state event accepted)
+    All-from_recursion (λ action. is_permitted_answer state event action ≡ true) (answers_of table state event)
+    (permitted_answers table state event accepted)
 
 needed_cell : (table : Table) → InClass table → (cell : Cell) → Needed table cell → HasAlternative table cell
-needed_cell table accepted (Cell.Local state event) needed = not_empty (locals_of table state event) (needed_local table state event accepted needed)
+needed_cell table accepted (Cell.Local state event) needed =
+    not_empty (locals_of table state event) (needed_local table state event accepted needed)
 needed_cell table accepted (Cell.Answer state event) needed =
     not_empty (answers_of table state event) (needed_answer table state event accepted needed.0 needed.1 needed.2)
 
@@ -39,7 +42,9 @@ all_nil : {X Y : Type 0} (f : X → List Y) (xs : List X) → ((x : X) → f x �
 all_nil f [] h = refl
 all_nil f (x ∷ xs) h = rw (h x, all_nil f xs h) refl
 
-all_pass : {X : Type 0} (test : X → Bool) (n : ℕ) (xs : List X) → AllByRecursion (λ x. test x ≡ true) xs → failing_numbers test n xs ≡ []
+all_pass :
+    {X : Type 0} (test : X → Bool) (n : ℕ) (xs : List X) → AllByRecursion (λ x. test x ≡ true) xs
+    → failing_numbers test n xs ≡ []
 all_pass test n [] h = refl
 all_pass test n (x ∷ xs) h = rw (h.0, all_pass test (n + 1) xs h.1) refl
 
@@ -47,11 +52,13 @@ nothing_forbidden : (table : Table) → KeepsToClass table → (cell : Cell) →
 nothing_forbidden table keeps (Cell.Local state event) =
     ap (faults_at (Cell.Local state event))
     (all_pass (is_permitted_local state event) 1 (locals_of table state event)
-    (recursion_from_All (λ action. is_permitted_local state event action ≡ true) (locals_of table state event) (keeps.permitted (Cell.Local state event))))
+    (recursion_from_All (λ action. is_permitted_local state event action ≡ true) (locals_of table state event)
+    (keeps.permitted (Cell.Local state event))))
 nothing_forbidden table keeps (Cell.Answer state event) =
     ap (faults_at (Cell.Answer state event))
     (all_pass (is_permitted_answer state event) 1 (answers_of table state event)
-    (recursion_from_All (λ action. is_permitted_answer state event action ≡ true) (answers_of table state event) (keeps.permitted (Cell.Answer state event))))
+    (recursion_from_All (λ action. is_permitted_answer state event action ≡ true) (answers_of table state event)
+    (keeps.permitted (Cell.Answer state event))))
 
 is_nil : {X : Type 0} (xs : List X) → is_empty xs ≡ true → xs ≡ []
 is_nil [] h = refl
@@ -81,7 +88,11 @@ nothing_missing table keeps cell = go (is_missing table cell) refl
 
 no_faults : (table : Table) → KeepsToClass table → InClass table
 unfolding faults
-no_faults table keeps = rw (all_nil (forbidden_faults table) all_cells (nothing_forbidden table keeps), all_nil (missing_faults table) all_cells (nothing_missing table keeps)) refl
+no_faults table keeps =
+    rw (
+      all_nil (forbidden_faults table) all_cells (nothing_forbidden table keeps),
+      all_nil (missing_faults table) all_cells (nothing_missing table keeps),
+    ) refl
 
 -- ---- the laws
 

@@ -39,19 +39,28 @@ bar_again : (more : Bool) (rest : Words) → bar_or_end (tail more rest) ≡ Ok 
 bar_again true rest = refl
 bar_again false rest = refl
 
-no_bus_again : (r : Outcome) (more : Bool) (rest : Words) → local_rest r (tail more rest) ≡ Ok (local_action r None, more, left more rest)
+no_bus_again :
+    (r : Outcome) (more : Bool) (rest : Words)
+    → local_rest r (tail more rest) ≡ Ok (local_action r None, more, left more rest)
 no_bus_again r true rest = refl
 no_bus_again r false rest = refl
 
-bus_again : (r : Outcome) (bus : Option BusEvent) (more : Bool) (rest : Words) → local_rest r (bus_words bus ++ tail more rest) ≡ Ok (local_action r bus, more, left more rest)
+bus_again :
+    (r : Outcome) (bus : Option BusEvent) (more : Bool) (rest : Words)
+    → local_rest r (bus_words bus ++ tail more rest) ≡ Ok (local_action r bus, more, left more rest)
 bus_again r None more rest = no_bus_again r more rest
 bus_again r (Some b) more rest = rw (not_bar b, bus_event_again b, bar_again more rest) refl
 
-pub local_again : (missing : TableKind) (a : LocalAction) (more : Bool) (rest : Words) → local_at missing (local_words a ++ tail more rest) ≡ Ok (a, more, left more rest)
+pub local_again :
+    (missing : TableKind) (a : LocalAction) (more : Bool) (rest : Words)
+    → local_at missing (local_words a ++ tail more rest) ≡ Ok (a, more, left more rest)
 unfolding local_at
 local_again missing a more rest = rw (outcome_again a.result) (bus_again a.result a.bus more rest)
 
-signals_again : (s : State) (ch di sl more : Bool) (rest : Words) → snoop_rest s (drop 1 (snoop_words (answer_of s ch di sl)) ++ tail more rest) ≡ Ok (answer_of s ch di sl, more, left more rest)
+signals_again :
+    (s : State) (ch di sl more : Bool) (rest : Words)
+    → snoop_rest s (drop 1 (snoop_words (answer_of s ch di sl)) ++ tail more rest)
+    ≡ Ok (answer_of s ch di sl, more, left more rest)
 signals_again s true true true true rest = refl
 signals_again s true true true false rest = refl
 signals_again s true true false true rest = refl
@@ -69,30 +78,49 @@ signals_again s false false true false rest = refl
 signals_again s false false false true rest = refl
 signals_again s false false false false rest = refl
 
-pub snoop_again : (missing : TableKind) (a : SnoopAction) (more : Bool) (rest : Words) → snoop_at missing (snoop_words a ++ tail more rest) ≡ Ok (a, more, left more rest)
+pub snoop_again :
+    (missing : TableKind) (a : SnoopAction) (more : Bool) (rest : Words)
+    → snoop_at missing (snoop_words a ++ tail more rest) ≡ Ok (a, more, left more rest)
 unfolding snoop_at
-snoop_again missing a more rest = rw (state_again a.result) (signals_again a.result a.response.ch a.response.di a.response.sl more rest)
+snoop_again missing a more rest =
+    rw (state_again a.result) (signals_again a.result a.response.ch a.response.di a.response.sl more rest)
 
-module _ {A X : Type 0} (first : List ℕ → Option X) (read : TableKind → Words → Result (A × Bool × Words) TableKind) (f : A → Words) (add : Table → A → Table) (again : (missing : TableKind) (a : A) (more : Bool) (rest : Words) → read missing (f a ++ tail more rest) ≡ Ok (a, more, left more rest)) where
-  pub alternatives_again : (room : ℕ) (missing : TableKind) (t : Table) (alts : List A) → 0 < length alts → length alts ≤ room → alternatives first read add room missing t (alternative_words f alts) ≡ Ok (all_added add t alts)
+module _ {A X : Type 0} (first : List ℕ → Option X) (read : TableKind → Words → Result (A × Bool × Words) TableKind)
+    (f : A → Words) (add : Table → A → Table)
+    (again : (missing : TableKind) (a : A) (more : Bool) (rest : Words)
+    → read missing (f a ++ tail more rest) ≡ Ok (a, more, left more rest)) where
+  pub alternatives_again :
+      (room : ℕ) (missing : TableKind) (t : Table) (alts : List A) → 0 < length alts → length alts ≤ room
+      → alternatives first read add room missing t (alternative_words f alts) ≡ Ok (all_added add t alts)
   unfolding alternatives
   alternatives_again zero missing t [] some few = absurd (omega arith)
   alternatives_again zero missing t (a ∷ alts) some few = absurd (omega arith)
   alternatives_again (suc room) missing t [] some few = absurd (omega arith)
   alternatives_again (suc room) missing t (a ∷ []) some few =
-      let one : read missing (f a) ≡ Ok (a, false, []) = ap (read missing) (sym (append-nil (f a))) ∙ again missing a false [] in
+      let one : read missing (f a) ≡ Ok (a, false, []) =
+      ap (read missing) (sym (append-nil (f a))) ∙ again missing a false [] in
       rw one refl
   alternatives_again (suc room) missing t (a ∷ b ∷ more) some few =
-      rw (again missing a true (alternative_words f (b ∷ more))) (alternatives_again room UnknownWord (add t a) (b ∷ more) (omega arith) (omega arith))
+      rw (again missing a true (alternative_words f (b ∷ more)))
+      (alternatives_again room UnknownWord (add t a) (b ∷ more) (omega arith) (omega arith))
 
-pub cell_again : (t : Table) (c : CellLine) → HasAllCells t → CanStand t c → cell_line t (cell_words c) ≡ Ok (entered t c)
+pub cell_again :
+    (t : Table) (c : CellLine) → HasAllCells t → CanStand t c → cell_line t (cell_words c) ≡ Ok (entered t c)
 unfolding cell_line local_cell_at snoop_cell_at
 cell_again t (local s e alts) whole can =
-    rw (state_again s, local_event_again e, can.0) (alternatives_again outcome_of local_at local_words (λ u a. with_local u s e a) local_again 16 NoCell t alts can.1 can.2
-    ∙ ap Ok (local_added s e t alts (omega (arith, place_local s e, whole.local)) ∙ ap (λ (row : List LocalAction). record t { locals = slice_set t.locals (local_cell s e) (row ++ alts) }) can.0))
+    rw (state_again s, local_event_again e, can.0)
+    (alternatives_again outcome_of local_at local_words (λ u a. with_local u s e a) local_again 16 NoCell t alts
+    can.1 can.2
+    ∙ ap Ok (local_added s e t alts (omega (arith, place_local s e, whole.local))
+    ∙ ap (λ (row : List LocalAction). record t { locals = slice_set t.locals (local_cell s e) (row ++ alts) })
+    can.0))
 cell_again t (answer s e alts) whole can =
-    rw (state_again s, no_local_event e, bus_event_again e, can.0) (alternatives_again state_of snoop_at snoop_words (λ u a. with_answer u s e a) snoop_again 16 NoCell t alts can.1 can.2
-    ∙ ap Ok (snoop_added s e t alts (omega (arith, place_snoop s e, whole.snoop)) ∙ ap (λ (row : List SnoopAction). record t { answers = slice_set t.answers (answer_cell s e) (row ++ alts) }) can.0))
+    rw (state_again s, no_local_event e, bus_event_again e, can.0)
+    (alternatives_again state_of snoop_at snoop_words (λ u a. with_answer u s e a) snoop_again 16 NoCell t alts
+    can.1 can.2
+    ∙ ap Ok (snoop_added s e t alts (omega (arith, place_snoop s e, whole.snoop))
+    ∙ ap (λ (row : List SnoopAction). record t { answers = slice_set t.answers (answer_cell s e) (row ++ alts) })
+    can.0))
 
 abbrev first_word : CellLine → List ℕ
 first_word (local s e alts) = state_word s
@@ -111,7 +139,8 @@ not_end (answer E e alts) = refl
 not_end (answer S e alts) = refl
 not_end (answer I e alts) = refl
 
-pub line_again : (t : Table) (c : CellLine) → HasAllCells t → CanStand t c → table_line t (cell_words c) ≡ Ok (false, entered t c)
+pub line_again :
+    (t : Table) (c : CellLine) → HasAllCells t → CanStand t c → table_line t (cell_words c) ≡ Ok (false, entered t c)
 unfolding table_line
 line_again t (local s e alts) whole can = rw (not_end (local s e alts), cell_again t (local s e alts) whole can) refl
 line_again t (answer s e alts) whole can = rw (not_end (answer s e alts), cell_again t (answer s e alts) whole can) refl
@@ -134,12 +163,15 @@ cell_begins : (c : CellLine) (xs : List Item) → text_end ∷ [] ≡ line_items
 cell_begins (local s e alts) xs h = cc
 cell_begins (answer s e alts) xs h = cc
 
-pub lines_again : (cells : List CellLine) (t : Table) (ls : List Line) (end : ℕ) (rest : List Item) → HasAllCells t → AllStand t cells → items (lines_places ls end) ≡ cells_items cells ++ (line_items (codes "end" ∷ []) ++ rest)
+pub lines_again :
+    (cells : List CellLine) (t : Table) (ls : List Line) (end : ℕ) (rest : List Item) → HasAllCells t → AllStand t cells
+    → items (lines_places ls end) ≡ cells_items cells ++ (line_items (codes "end" ∷ []) ++ rest)
     → ReadsOn (table_lines t ls end) (all_entered t cells) rest
 unfolding table_lines
 lines_again [] t [] end rest whole stand e = absurd cc
 lines_again [] t (l ∷ ls) end rest whole stand e =
-    let both = cut_line l.words (codes "end" ∷ []) (items (lines_places ls end)) rest (sym (items_line l.number l.words (lines_places ls end)) ∙ e) in
+    let both = cut_line l.words (codes "end" ∷ []) (items (lines_places ls end)) rest
+    (sym (items_line l.number l.words (lines_places ls end)) ∙ e) in
     let one : table_line t l.words ≡ Ok (true, t) = ap (table_line t) both.0 ∙ end_again t in
     record {
       left = record { line = l.number; words = []; lines = ls; end = end };
@@ -148,11 +180,16 @@ lines_again [] t (l ∷ ls) end rest whole stand e =
       ends = refl;
     }
 lines_again (c ∷ cells) t [] end rest whole stand e =
-    absurd (cell_begins c (cells_items cells ++ (line_items (codes "end" ∷ []) ++ rest)) (e ∙ append_assoc (line_items (cell_words c)) (cells_items cells) (line_items (codes "end" ∷ []) ++ rest)))
+    absurd (cell_begins c (cells_items cells ++ (line_items (codes "end" ∷ []) ++ rest))
+    (e ∙ append_assoc (line_items (cell_words c)) (cells_items cells) (line_items (codes "end" ∷ []) ++ rest)))
 lines_again (c ∷ cells) t (l ∷ ls) end rest whole stand e =
-    let regrouped = append_assoc (line_items (cell_words c)) (cells_items cells) (line_items (codes "end" ∷ []) ++ rest) in
-    let both = cut_line l.words (cell_words c) (items (lines_places ls end)) (cells_items cells ++ (line_items (codes "end" ∷ []) ++ rest)) (sym (items_line l.number l.words (lines_places ls end)) ∙ (e ∙ regrouped)) in
-    let one : table_line t l.words ≡ Ok (false, entered t c) = ap (table_line t) both.0 ∙ line_again t c whole stand.0 in
+    let regrouped =
+    append_assoc (line_items (cell_words c)) (cells_items cells) (line_items (codes "end" ∷ []) ++ rest) in
+    let both = cut_line l.words (cell_words c) (items (lines_places ls end))
+    (cells_items cells ++ (line_items (codes "end" ∷ []) ++ rest))
+    (sym (items_line l.number l.words (lines_places ls end)) ∙ (e ∙ regrouped)) in
+    let one : table_line t l.words ≡ Ok (false, entered t c) =
+    ap (table_line t) both.0 ∙ line_again t c whole stand.0 in
     let others = lines_again cells (entered t c) ls end rest (entered_whole t c whole) stand.1 both.1 in
     record {
       left = others.left;
@@ -162,10 +199,15 @@ lines_again (c ∷ cells) t (l ∷ ls) end rest whole stand e =
     }
 
 -- What is spelled so is read, whatever follows it.
-pub table_again : (name : List ℕ) (u : Unread) (cells : List CellLine) (rest : List Item) → AllStand (empty_table name) cells → items (places u) ≡ table_items cells ++ rest → ReadsOn (table_at name u) (table_of name cells) rest
+pub table_again :
+    (name : List ℕ) (u : Unread) (cells : List CellLine) (rest : List Item) → AllStand (empty_table name) cells
+    → items (places u) ≡ table_items cells ++ rest → ReadsOn (table_at name u) (table_of name cells) rest
 unfolding table_at
 table_again name u cells rest stand e =
-    let both = cut_line u.words [] (items (lines_places u.lines u.end)) (cells_items cells ++ (line_items (codes "end" ∷ []) ++ rest)) (sym (items_line u.line u.words (lines_places u.lines u.end)) ∙ (e ∙ ap (λ (xs : List Item). line_end ∷ xs) (rows_items cells rest))) in
+    let both = cut_line u.words [] (items (lines_places u.lines u.end))
+    (cells_items cells ++ (line_items (codes "end" ∷ []) ++ rest))
+    (sym (items_line u.line u.words (lines_places u.lines u.end))
+    ∙ (e ∙ ap (λ (xs : List Item). line_end ∷ xs) (rows_items cells rest))) in
     let found = lines_again cells (empty_table name) u.lines u.end rest (empty_whole name) stand both.1 in
     let none : line_ends u.words ≡ Ok tt = ap line_ends both.0 in
     record {

@@ -16,7 +16,9 @@ use Rattle.table_text.specs.Spelling.{bar, local_words, signal_words, snoop_word
 use Rattle.class_words.proofs.WordLaws.{state_is, bus_event_is, outcome_is}
 
 -- the value of a step that did not fail
-pub bind_ok : {A B E : Type 0} (r : Result A E) (f : A → Result B E) (y : B) → (r >>= f) ≡ Ok y → (x : A) × (r ≡ Ok x) × (f x ≡ Ok y)
+pub bind_ok :
+    {A B E : Type 0} (r : Result A E) (f : A → Result B E) (y : B) → (r >>= f) ≡ Ok y
+    → (x : A) × (r ≡ Ok x) × (f x ≡ Ok y)
 bind_ok (Ok x) f y e = (x, refl, e)
 bind_ok (Err d) f y e = absurd cc
 
@@ -45,7 +47,9 @@ bar_takes (w ∷ ws) x e =
     let h = wanted (bytes_eq w bar) (true, ws) x _ e in
     subst (λ (y : Bool × Words). (w ∷ ws) ≡ tail y.0 y.1) h.1 (ap (λ (v : List ℕ). v ∷ ws) (is_word w bar h.0))
 
-pub word_takes : {X : Type 0} (f : List ℕ → Option X) (name : X → List ℕ) (is : (w : List ℕ) (x : X) → f w ≡ Some x → w ≡ name x) (missing : TableKind) (ws : Words) (x : X × Words) → word_by f missing ws ≡ Ok x → ws ≡ name x.0 ∷ x.1
+pub word_takes :
+    {X : Type 0} (f : List ℕ → Option X) (name : X → List ℕ) (is : (w : List ℕ) (x : X) → f w ≡ Some x → w ≡ name x)
+    (missing : TableKind) (ws : Words) (x : X × Words) → word_by f missing ws ≡ Ok x → ws ≡ name x.0 ∷ x.1
 word_takes f name is missing [] x e = absurd cc
 word_takes {X} f name is missing (w ∷ ws) x e = go (f w) refl e
   where
@@ -67,28 +71,41 @@ bar_ends (w ∷ ws) x e h =
 abbrev one_local : LocalAction × Bool × Words → Words
 one_local x = local_words x.0 ++ tail x.1 x.2
 
-local_rest_takes : (result : Outcome) (ws : Words) (x : LocalAction × Bool × Words) → local_rest result ws ≡ Ok x → (outcome_word result ∷ ws) ≡ one_local x
+local_rest_takes :
+    (result : Outcome) (ws : Words) (x : LocalAction × Bool × Words) → local_rest result ws ≡ Ok x
+    → (outcome_word result ∷ ws) ≡ one_local x
 local_rest_takes result [] x e =
     let same = ok_is (local_action result None, false, []) x e in
     subst (λ (y : LocalAction × Bool × Words). (outcome_word result ∷ []) ≡ one_local y) same refl
 local_rest_takes result (w ∷ ws) x e = go (bytes_eq w bar) refl e
   where
-    event : (o : Option BusEvent) → bus_event_of w ≡ o → bus_event_at result o ws ≡ Ok x → (outcome_word result ∷ w ∷ ws) ≡ one_local x
+    event :
+        (o : Option BusEvent) → bus_event_of w ≡ o → bus_event_at result o ws ≡ Ok x
+        → (outcome_word result ∷ w ∷ ws) ≡ one_local x
     event None h e = absurd cc
     event (Some b) h e =
         let a = bind_ok (bar_or_end ws) (λ after. Ok (local_action result (Some b), after.0, after.1)) x e in
         let same = ok_is (local_action result (Some b), a.0.0, a.0.1) x a.2 in
-        let parts : (outcome_word result ∷ w ∷ ws) ≡ one_local (local_action result (Some b), a.0.0, a.0.1) = ap (λ (v : Words). outcome_word result ∷ v) (ap (λ (v : List ℕ). v ∷ ws) (bus_event_is w b h) ∙ ap (λ (v : Words). bus_event_word b ∷ v) (bar_takes ws a.0 a.1)) in
+        let parts : (outcome_word result ∷ w ∷ ws) ≡ one_local (local_action result (Some b), a.0.0, a.0.1) =
+        ap (λ (v : Words). outcome_word result ∷ v)
+        (ap (λ (v : List ℕ). v ∷ ws) (bus_event_is w b h)
+        ∙ ap (λ (v : Words). bus_event_word b ∷ v) (bar_takes ws a.0 a.1)) in
         subst (λ (y : LocalAction × Bool × Words). (outcome_word result ∷ w ∷ ws) ≡ one_local y) same parts
 
-    go : (b : Bool) → bytes_eq w bar ≡ b → cond b (Ok (local_action result None, true, ws)) (bus_event_at result (bus_event_of w) ws) ≡ Ok x → (outcome_word result ∷ w ∷ ws) ≡ one_local x
+    go :
+        (b : Bool) → bytes_eq w bar ≡ b
+        → cond b (Ok (local_action result None, true, ws)) (bus_event_at result (bus_event_of w) ws) ≡ Ok x
+        → (outcome_word result ∷ w ∷ ws) ≡ one_local x
     go true h e =
         let same = ok_is (local_action result None, true, ws) x e in
-        subst (λ (y : LocalAction × Bool × Words). (outcome_word result ∷ w ∷ ws) ≡ one_local y) same (rw (is_word w bar h) refl)
+        subst (λ (y : LocalAction × Bool × Words). (outcome_word result ∷ w ∷ ws) ≡ one_local y) same
+        (rw (is_word w bar h) refl)
     go false h e = event (bus_event_of w) refl e
 
 -- a local alternative, and what stands after it
-pub local_takes : (missing : TableKind) (ws : Words) (x : LocalAction × Bool × Words) → local_at missing ws ≡ Ok x → ws ≡ local_words x.0 ++ tail x.1 x.2
+pub local_takes :
+    (missing : TableKind) (ws : Words) (x : LocalAction × Bool × Words) → local_at missing ws ≡ Ok x
+    → ws ≡ local_words x.0 ++ tail x.1 x.2
 unfolding local_at
 local_takes missing ws x e =
     let a = bind_ok (word_by outcome_of missing ws) (λ result. local_rest result.0 result.1) x e in
@@ -98,7 +115,11 @@ pub signal_takes : (name : List ℕ) (ws : Words) → ws ≡ signal_words (signa
 signal_takes name [] = refl
 signal_takes name (w ∷ ws) = go (bytes_eq w name) refl
   where
-    go : (b : Bool) → bytes_eq w name ≡ b → (w ∷ ws) ≡ signal_words (cond {A = Bool × Words} b (true, ws) (false, w ∷ ws)).0 name ++ (cond {A = Bool × Words} b (true, ws) (false, w ∷ ws)).1
+    go :
+        (b : Bool) → bytes_eq w name ≡ b
+        → (w ∷ ws)
+        ≡ signal_words (cond {A = Bool × Words} b (true, ws) (false, w ∷ ws)).0 name
+        ++ (cond {A = Bool × Words} b (true, ws) (false, w ∷ ws)).1
     go true h = ap (λ (v : List ℕ). v ∷ ws) (is_word w name h)
     go false h = refl
 
@@ -108,7 +129,9 @@ one_snoop x = snoop_words x.0 ++ tail x.1 x.2
 abbrev pub answer_of : State → Bool → Bool → Bool → SnoopAction
 answer_of s ch di sl = record { result = s; response = response ch di sl }
 
-snoop_rest_takes : (s : State) (ws : Words) (x : SnoopAction × Bool × Words) → snoop_rest s ws ≡ Ok x → (state_word s ∷ ws) ≡ one_snoop x
+snoop_rest_takes :
+    (s : State) (ws : Words) (x : SnoopAction × Bool × Words) → snoop_rest s ws ≡ Ok x
+    → (state_word s ∷ ws) ≡ one_snoop x
 snoop_rest_takes s ws x e =
     let ch : Bool × Words = signal_at (codes "CH") ws in
     let di : Bool × Words = signal_at (codes "DI") ch.1 in
@@ -120,12 +143,20 @@ snoop_rest_takes s ws x e =
     let l : Words = signal_words sl.0 (codes "SL") in
     let end : Words = tail a.0.0 a.0.1 in
     let steps : ws ≡ c ++ (d ++ (l ++ end)) =
-    signal_takes (codes "CH") ws ∙ ap (λ (v : Words). c ++ v) (signal_takes (codes "DI") ch.1 ∙ ap (λ (v : Words). d ++ v) (signal_takes (codes "SL") di.1 ∙ ap (λ (v : Words). l ++ v) (bar_takes sl.1 a.0 a.1))) in
-    let grouped : c ++ (d ++ (l ++ end)) ≡ ((c ++ d) ++ l) ++ end = sym (append_assoc (c ++ d) l end ∙ append_assoc c d (l ++ end)) in
-    let parts : (state_word s ∷ ws) ≡ one_snoop (answer_of s ch.0 di.0 sl.0, a.0.0, a.0.1) = ap (λ (v : Words). state_word s ∷ v) (steps ∙ grouped) in
+    signal_takes (codes "CH") ws
+    ∙ ap (λ (v : Words). c ++ v)
+    (signal_takes (codes "DI") ch.1
+    ∙ ap (λ (v : Words). d ++ v)
+    (signal_takes (codes "SL") di.1 ∙ ap (λ (v : Words). l ++ v) (bar_takes sl.1 a.0 a.1))) in
+    let grouped : c ++ (d ++ (l ++ end)) ≡ ((c ++ d) ++ l) ++ end =
+    sym (append_assoc (c ++ d) l end ∙ append_assoc c d (l ++ end)) in
+    let parts : (state_word s ∷ ws) ≡ one_snoop (answer_of s ch.0 di.0 sl.0, a.0.0, a.0.1) =
+    ap (λ (v : Words). state_word s ∷ v) (steps ∙ grouped) in
     subst (λ (y : SnoopAction × Bool × Words). (state_word s ∷ ws) ≡ one_snoop y) same parts
 
-pub snoop_takes : (missing : TableKind) (ws : Words) (x : SnoopAction × Bool × Words) → snoop_at missing ws ≡ Ok x → ws ≡ snoop_words x.0 ++ tail x.1 x.2
+pub snoop_takes :
+    (missing : TableKind) (ws : Words) (x : SnoopAction × Bool × Words) → snoop_at missing ws ≡ Ok x
+    → ws ≡ snoop_words x.0 ++ tail x.1 x.2
 unfolding snoop_at
 snoop_takes missing ws x e =
     let a = bind_ok (word_by state_of missing ws) (λ state. snoop_rest state.0 state.1) x e in

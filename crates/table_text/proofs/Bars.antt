@@ -29,10 +29,12 @@ state_no_bar S = refl
 state_no_bar I = refl
 
 pub local_event_no_bar : (e : LocalEvent) → bytes_eq (local_event_word e) bar ≡ false
-local_event_no_bar e = not-true (bytes_eq (local_event_word e) bar) (each_local (λ e. not (bytes_eq (local_event_word e) bar)) refl e)
+local_event_no_bar e =
+    not-true (bytes_eq (local_event_word e) bar) (each_local (λ e. not (bytes_eq (local_event_word e) bar)) refl e)
 
 pub bus_event_no_bar : (b : BusEvent) → bytes_eq (bus_event_word b) bar ≡ false
-bus_event_no_bar b = not-true (bytes_eq (bus_event_word b) bar) (each_bus (λ b. not (bytes_eq (bus_event_word b) bar)) refl b)
+bus_event_no_bar b =
+    not-true (bytes_eq (bus_event_word b) bar) (each_bus (λ b. not (bytes_eq (bus_event_word b) bar)) refl b)
 
 outcome_no_bar : (o : Outcome) → bytes_eq (outcome_word o) bar ≡ false
 outcome_no_bar (Fixed s) = state_no_bar s
@@ -50,7 +52,9 @@ local_bars a = rw (outcome_no_bar a.result) (bus a.bus)
     bus None = refl
     bus (Some e) = rw (bus_event_no_bar e) refl
 
-signals : (ch di sl : Bool) → bars (signal_words ch (codes "CH") ++ signal_words di (codes "DI") ++ signal_words sl (codes "SL")) ≡ 0
+signals :
+    (ch di sl : Bool)
+    → bars (signal_words ch (codes "CH") ++ signal_words di (codes "DI") ++ signal_words sl (codes "SL")) ≡ 0
 signals true true true = refl
 signals true true false = refl
 signals true false true = refl
@@ -64,12 +68,15 @@ pub snoop_bars : (a : SnoopAction) → bars (snoop_words a) ≡ 0
 snoop_bars a = rw (state_no_bar a.result) (omega (arith, signals a.response.ch a.response.di a.response.sl))
 
 -- between the alternatives there is one bar less than there are alternatives
-pub alternatives_bars : {A : Type 0} (f : A → Words) → ((a : A) → bars (f a) ≡ 0) → (alts : List A) → 0 < length alts → bars (alternative_words f alts) < length alts
+pub alternatives_bars :
+    {A : Type 0} (f : A → Words) → ((a : A) → bars (f a) ≡ 0) → (alts : List A) → 0 < length alts
+    → bars (alternative_words f alts) < length alts
 alternatives_bars f none [] some = absurd (omega arith)
 alternatives_bars f none (a ∷ []) some = omega (arith, none a)
 alternatives_bars f none (a ∷ b ∷ more) some =
     let rest = alternatives_bars f none (b ∷ more) (omega arith) in
-    omega (arith, none a, bars_append (f a) (bar ∷ alternative_words f (b ∷ more)), one (alternative_words f (b ∷ more)))
+    omega
+    (arith, none a, bars_append (f a) (bar ∷ alternative_words f (b ∷ more)), one (alternative_words f (b ∷ more)))
   where
     one : (ws : Words) → bars (bar ∷ ws) ≡ 1 + bars ws
     one ws = refl
@@ -86,7 +93,8 @@ pub few_nil : (n : ℕ) → FewBars n []
 few_nil n [] w q e = absurd cc
 few_nil n (x ∷ p) w q e = absurd cc
 
-pub few_cons : (n : ℕ) (v : List ℕ) (front : Words) → bytes_eq v bar ≡ false → 0 < n → FewBars n front → FewBars n (v ∷ front)
+pub few_cons :
+    (n : ℕ) (v : List ℕ) (front : Words) → bytes_eq v bar ≡ false → 0 < n → FewBars n front → FewBars n (v ∷ front)
 few_cons n v front nobar lt few [] w q e = lt
 few_cons n v front nobar lt few (u ∷ p) w q e =
     let rest : front ≡ p ++ w ∷ q = cc in

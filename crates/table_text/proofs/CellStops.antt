@@ -33,9 +33,13 @@ BeginsCell front = (c : CellLine) × (more : Words) × HasAlternative c × (cell
 
 -- why a cell line is refused, after these lines
 abbrev pub WhyCell : List Words → Words → Option (List ℕ) → TableKind → Type 0
-WhyCell done front None kind = ((kind ≡ NoCell) × (s : List ℕ) × (a : List ℕ) × (front ≡ s ∷ a ∷ codes "=" ∷ [])) ⊎ ((kind ≡ UnknownWord) × ((p : Words) → front ≡ p ++ codes "=" ∷ [] → ⊥))
+WhyCell done front None kind =
+    ((kind ≡ NoCell) × (s : List ℕ) × (a : List ℕ) × (front ≡ s ∷ a ∷ codes "=" ∷ []))
+    ⊎ ((kind ≡ UnknownWord) × ((p : Words) → front ≡ p ++ codes "=" ∷ [] → ⊥))
 WhyCell done front (Some w) kind =
-    (kind ≡ UnknownWord) ⊎ (((kind ≡ TwiceCell) × ((s : List ℕ) × (front ≡ s ∷ []) × HasLine done s w) × BeginsCell (front ++ w ∷ [])) ⊎ ((kind ≡ Alternatives 17) × (bars front ≡ 16) × BeginsCell (front ++ w ∷ [])))
+    (kind ≡ UnknownWord)
+    ⊎ (((kind ≡ TwiceCell) × ((s : List ℕ) × (front ≡ s ∷ []) × HasLine done s w) × BeginsCell (front ++ w ∷ []))
+    ⊎ ((kind ≡ Alternatives 17) × (bars front ≡ 16) × BeginsCell (front ++ w ∷ [])))
 
 -- the cell of a front was not given before
 abbrev pub IsNew : List Words → Words → Type 0
@@ -71,36 +75,60 @@ state_no_equals s e = let both : true ≡ false = sym (ap (λ (v : List ℕ). by
 local_no_equals : (e : LocalEvent) → local_event_word e ≡ codes "=" → ⊥
 local_no_equals e is =
     let yes : bytes_eq (local_event_word e) (codes "=") ≡ true = ap (λ w. bytes_eq w (codes "=")) is in
-    let no : bytes_eq (local_event_word e) (codes "=") ≡ false = not-true (bytes_eq (local_event_word e) (codes "=")) (each_local (λ e. not (bytes_eq (local_event_word e) (codes "="))) refl e) in
+    let no : bytes_eq (local_event_word e) (codes "=") ≡ false =
+    not-true (bytes_eq (local_event_word e) (codes "="))
+    (each_local (λ e. not (bytes_eq (local_event_word e) (codes "="))) refl e) in
     cc
 
 bus_no_equals : (e : BusEvent) → bus_event_word e ≡ codes "=" → ⊥
 bus_no_equals e is =
     let yes : bytes_eq (bus_event_word e) (codes "=") ≡ true = ap (λ w. bytes_eq w (codes "=")) is in
-    let no : bytes_eq (bus_event_word e) (codes "=") ≡ false = not-true (bytes_eq (bus_event_word e) (codes "=")) (each_bus (λ e. not (bytes_eq (bus_event_word e) (codes "="))) refl e) in
+    let no : bytes_eq (bus_event_word e) (codes "=") ≡ false =
+    not-true (bytes_eq (bus_event_word e) (codes "="))
+    (each_bus (λ e. not (bytes_eq (bus_event_word e) (codes "="))) refl e) in
     cc
 
 bar_no_equals : bar ≡ codes "=" → ⊥
 bar_no_equals e = cc
 
 -- the two words of a cell in front
-two_words : (done : List Words) (s a : List ℕ) (Begins : Words → Type 0) → bytes_eq s bar ≡ false → bytes_eq a bar ≡ false → (a ≡ codes "=" → ⊥) → ((front : Words) → Begins front → BeginsCell (s ∷ a ∷ front)) → (front : Words) (at : Option (List ℕ)) (kind : TableKind) → WhyTail Begins front at kind → WhyCell done (s ∷ a ∷ front) at kind
+two_words :
+    (done : List Words) (s a : List ℕ) (Begins : Words → Type 0) → bytes_eq s bar ≡ false → bytes_eq a bar ≡ false
+    → (a ≡ codes "=" → ⊥) → ((front : Words) → Begins front → BeginsCell (s ∷ a ∷ front))
+    → (front : Words) (at : Option (List ℕ)) (kind : TableKind) → WhyTail Begins front at kind
+    → WhyCell done (s ∷ a ∷ front) at kind
 two_words done s a Begins sb ab ae begins front None kind (inl (k, h)) = inl (k, s, a, ap (λ (v : Words). s ∷ a ∷ v) h)
-two_words done s a Begins sb ab ae begins front None kind (inr (k, inl h)) = inr (k, λ p q. ae (snoc_last (s ∷ []) p a (codes "=") (ap (λ (v : Words). s ∷ a ∷ v) (sym h) ∙ q)))
-two_words done s a Begins sb ab ae begins front None kind (inr (k, inr (r, h))) = inr (k, λ p q. bar_no_equals (snoc_last (s ∷ a ∷ codes "=" ∷ r) p bar (codes "=") (ap (λ (v : Words). s ∷ a ∷ v) (sym h) ∙ q)))
+two_words done s a Begins sb ab ae begins front None kind (inr (k, inl h)) =
+    inr (k, λ p q. ae (snoc_last (s ∷ []) p a (codes "=") (ap (λ (v : Words). s ∷ a ∷ v) (sym h) ∙ q)))
+two_words done s a Begins sb ab ae begins front None kind (inr (k, inr (r, h))) =
+    inr (
+      k,
+      λ p q.
+          bar_no_equals
+          (snoc_last (s ∷ a ∷ codes "=" ∷ r) p bar (codes "=") (ap (λ (v : Words). s ∷ a ∷ v) (sym h) ∙ q)),
+    )
 two_words done s a Begins sb ab ae begins front (Some w) kind (inl k) = inl k
-two_words done s a Begins sb ab ae begins front (Some w) kind (inr (k, count, b)) = inr (inr (k, rw (sb, ab) (omega (arith, count)), begins (front ++ w ∷ []) b))
+two_words done s a Begins sb ab ae begins front (Some w) kind (inr (k, count, b)) =
+    inr (inr (k, rw (sb, ab) (omega (arith, count)), begins (front ++ w ∷ []) b))
 
 abbrev LocalTail : State → LocalEvent → Words → Type 0
-LocalTail s e = BeginsTail outcome_of local_at local_words (λ u a. with_local u s e a) any_local local_takes local_again local_stops local_first local_bars
+LocalTail s e =
+    BeginsTail outcome_of local_at local_words (λ u a. with_local u s e a) any_local local_takes local_again local_stops
+    local_first local_bars
 
 abbrev SnoopTail : State → BusEvent → Words → Type 0
-SnoopTail s e = BeginsTail state_of snoop_at snoop_words (λ u a. with_answer u s e a) any_snoop snoop_takes snoop_again snoop_stops snoop_first snoop_bars
+SnoopTail s e =
+    BeginsTail state_of snoop_at snoop_words (λ u a. with_answer u s e a) any_snoop snoop_takes snoop_again snoop_stops
+    snoop_first snoop_bars
 
-local_begins_tail : (s : State) (e : LocalEvent) (front : Words) → LocalTail s e front → BeginsCell (state_word s ∷ local_event_word e ∷ front)
+local_begins_tail :
+    (s : State) (e : LocalEvent) (front : Words) → LocalTail s e front
+    → BeginsCell (state_word s ∷ local_event_word e ∷ front)
 local_begins_tail s e front b = (local s e b.0, b.1, b.2, ap (λ (v : Words). state_word s ∷ local_event_word e ∷ v) b.3)
 
-snoop_begins_tail : (s : State) (e : BusEvent) (front : Words) → SnoopTail s e front → BeginsCell (state_word s ∷ bus_event_word e ∷ front)
+snoop_begins_tail :
+    (s : State) (e : BusEvent) (front : Words) → SnoopTail s e front
+    → BeginsCell (state_word s ∷ bus_event_word e ∷ front)
 snoop_begins_tail s e front b = (answer s e b.0, b.1, b.2, ap (λ (v : Words). state_word s ∷ bus_event_word e ∷ v) b.3)
 
 module _ (t : Table) (done : List Words) (marks : Marks t done) where
@@ -108,7 +136,9 @@ module _ (t : Table) (done : List Words) (marks : Marks t done) where
   CellStops ws kind = Stops (cell_line t) BeginsCell (WhyLine done) ws kind
 
   under_local : (s : State) (e : LocalEvent) (ws : Words) (kind : TableKind) → locals_of t s e ≡ []
-      → Stops (after_event outcome_of local_at local_words (λ u a. with_local u s e a) any_local local_takes local_again local_stops local_first local_bars t) (LocalTail s e) (λ front at k. FewBars 16 front × WhyTail (LocalTail s e) front at k) ws kind
+      → Stops (after_event outcome_of local_at local_words (λ u a. with_local u s e a) any_local local_takes local_again
+      local_stops local_first local_bars t) (LocalTail s e)
+      (λ front at k. FewBars 16 front × WhyTail (LocalTail s e) front at k) ws kind
       → CellStops (state_word s ∷ local_event_word e ∷ ws) kind
   unfolding cell_line local_cell_at
   under_local s e ws kind none x = record {
@@ -118,15 +148,21 @@ module _ (t : Table) (done : List Words) (marks : Marks t done) where
     parts = ap (λ (v : Words). state_word s ∷ local_event_word e ∷ v) x.parts;
     begins = local_begins_tail s e x.front x.begins;
     why = record {
-      few = few_cons 16 (state_word s) (local_event_word e ∷ x.front) (state_no_bar s) (omega arith) (few_cons 16 (local_event_word e) x.front (local_event_no_bar e) (omega arith) x.why.0);
+      few =
+          few_cons 16 (state_word s) (local_event_word e ∷ x.front) (state_no_bar s) (omega arith)
+          (few_cons 16 (local_event_word e) x.front (local_event_no_bar e) (omega arith) x.why.0);
       new = new_two done (state_word s) (local_event_word e) x.front (marks.local_free s e none);
-      why = two_words done (state_word s) (local_event_word e) (LocalTail s e) (state_no_bar s) (local_event_no_bar e) (local_no_equals e) (local_begins_tail s e) x.front x.at kind x.why.1;
+      why =
+          two_words done (state_word s) (local_event_word e) (LocalTail s e) (state_no_bar s) (local_event_no_bar e)
+          (local_no_equals e) (local_begins_tail s e) x.front x.at kind x.why.1;
     };
     local = λ more. rw (state_again s, local_event_again e, none) (x.local more);
   }
 
   under_snoop : (s : State) (e : BusEvent) (ws : Words) (kind : TableKind) → answers_of t s e ≡ []
-      → Stops (after_event state_of snoop_at snoop_words (λ u a. with_answer u s e a) any_snoop snoop_takes snoop_again snoop_stops snoop_first snoop_bars t) (SnoopTail s e) (λ front at k. FewBars 16 front × WhyTail (SnoopTail s e) front at k) ws kind
+      → Stops (after_event state_of snoop_at snoop_words (λ u a. with_answer u s e a) any_snoop snoop_takes snoop_again
+      snoop_stops snoop_first snoop_bars t) (SnoopTail s e)
+      (λ front at k. FewBars 16 front × WhyTail (SnoopTail s e) front at k) ws kind
       → CellStops (state_word s ∷ bus_event_word e ∷ ws) kind
   unfolding cell_line snoop_cell_at
   under_snoop s e ws kind none x = record {
@@ -136,9 +172,13 @@ module _ (t : Table) (done : List Words) (marks : Marks t done) where
     parts = ap (λ (v : Words). state_word s ∷ bus_event_word e ∷ v) x.parts;
     begins = snoop_begins_tail s e x.front x.begins;
     why = record {
-      few = few_cons 16 (state_word s) (bus_event_word e ∷ x.front) (state_no_bar s) (omega arith) (few_cons 16 (bus_event_word e) x.front (bus_event_no_bar e) (omega arith) x.why.0);
+      few =
+          few_cons 16 (state_word s) (bus_event_word e ∷ x.front) (state_no_bar s) (omega arith)
+          (few_cons 16 (bus_event_word e) x.front (bus_event_no_bar e) (omega arith) x.why.0);
       new = new_two done (state_word s) (bus_event_word e) x.front (marks.snoop_free s e none);
-      why = two_words done (state_word s) (bus_event_word e) (SnoopTail s e) (state_no_bar s) (bus_event_no_bar e) (bus_no_equals e) (snoop_begins_tail s e) x.front x.at kind x.why.1;
+      why =
+          two_words done (state_word s) (bus_event_word e) (SnoopTail s e) (state_no_bar s) (bus_event_no_bar e)
+          (bus_no_equals e) (snoop_begins_tail s e) x.front x.at kind x.why.1;
     };
     local = λ more. rw (state_again s, no_local_event e, bus_event_again e, none) (x.local more);
   }
@@ -147,48 +187,83 @@ module _ (t : Table) (done : List Words) (marks : Marks t done) where
   few_one s = few_cons 16 (state_word s) [] (state_no_bar s) (omega arith) (few_nil 16)
 
   -- a cell that was given stops at its event
-  twice_local : (s : State) (e : LocalEvent) (ws : Words) (kind : TableKind) → is_empty (locals_of t s e) ≡ false → TwiceCell ≡ kind → CellStops (state_word s ∷ local_event_word e ∷ ws) kind
+  twice_local :
+      (s : State) (e : LocalEvent) (ws : Words) (kind : TableKind) → is_empty (locals_of t s e) ≡ false
+      → TwiceCell ≡ kind → CellStops (state_word s ∷ local_event_word e ∷ ws) kind
   unfolding cell_line local_cell_at
   twice_local s e ws kind given same =
-      let begins : BeginsCell (state_word s ∷ local_event_word e ∷ []) = (local s e (any_local ∷ []), codes "=" ∷ local_words any_local, omega arith, refl) in
+      let begins : BeginsCell (state_word s ∷ local_event_word e ∷ []) =
+      (local s e (any_local ∷ []), codes "=" ∷ local_words any_local, omega arith, refl) in
       record {
         front = state_word s ∷ [];
         at = Some (local_event_word e);
         rest = ws;
         parts = refl;
-        begins = (local s e (any_local ∷ []), local_event_word e ∷ codes "=" ∷ local_words any_local, omega arith, refl);
-        why = record { few = few_one s; new = new_one done (state_word s); why = inr (inl (sym same, (state_word s, refl, marks.local_used s e given), begins)) };
+        begins =
+            (local s e (any_local ∷ []), local_event_word e ∷ codes "=" ∷ local_words any_local, omega arith, refl);
+        why =
+            record {
+              few = few_one s;
+              new = new_one done (state_word s);
+              why = inr (inl (sym same, (state_word s, refl, marks.local_used s e given), begins));
+            };
         local = λ more. rw (state_again s, local_event_again e, given) (ap (λ (k : TableKind). refused k) same);
       }
 
-  twice_snoop : (s : State) (e : BusEvent) (ws : Words) (kind : TableKind) → is_empty (answers_of t s e) ≡ false → TwiceCell ≡ kind → CellStops (state_word s ∷ bus_event_word e ∷ ws) kind
+  twice_snoop :
+      (s : State) (e : BusEvent) (ws : Words) (kind : TableKind) → is_empty (answers_of t s e) ≡ false
+      → TwiceCell ≡ kind → CellStops (state_word s ∷ bus_event_word e ∷ ws) kind
   unfolding cell_line snoop_cell_at
   twice_snoop s e ws kind given same =
-      let begins : BeginsCell (state_word s ∷ bus_event_word e ∷ []) = (answer s e (any_snoop ∷ []), codes "=" ∷ snoop_words any_snoop, omega arith, refl) in
+      let begins : BeginsCell (state_word s ∷ bus_event_word e ∷ []) =
+      (answer s e (any_snoop ∷ []), codes "=" ∷ snoop_words any_snoop, omega arith, refl) in
       record {
         front = state_word s ∷ [];
         at = Some (bus_event_word e);
         rest = ws;
         parts = refl;
         begins = (answer s e (any_snoop ∷ []), bus_event_word e ∷ codes "=" ∷ snoop_words any_snoop, omega arith, refl);
-        why = record { few = few_one s; new = new_one done (state_word s); why = inr (inl (sym same, (state_word s, refl, marks.snoop_used s e given), begins)) };
-        local = λ more. rw (state_again s, no_local_event e, bus_event_again e, given) (ap (λ (k : TableKind). refused k) same);
+        why =
+            record {
+              few = few_one s;
+              new = new_one done (state_word s);
+              why = inr (inl (sym same, (state_word s, refl, marks.snoop_used s e given), begins));
+            };
+        local =
+            λ more.
+            rw (state_again s, no_local_event e, bus_event_again e, given) (ap (λ (k : TableKind). refused k) same);
       }
 
-  local_cell_stops : (s : State) (e : LocalEvent) (ws : Words) (kind : TableKind) → local_cell_at t s e ws ≡ Err kind → CellStops (state_word s ∷ local_event_word e ∷ ws) kind
+  local_cell_stops :
+      (s : State) (e : LocalEvent) (ws : Words) (kind : TableKind) → local_cell_at t s e ws ≡ Err kind
+      → CellStops (state_word s ∷ local_event_word e ∷ ws) kind
   unfolding local_cell_at
   local_cell_stops s e ws kind r = go (is_empty (locals_of t s e)) refl r
     where
-      go : (b : Bool) → is_empty (locals_of t s e) ≡ b → cond b (this_word (codes "=") ws >>= λ after. local_alternatives s e t after) (Err TwiceCell) ≡ Err kind → CellStops (state_word s ∷ local_event_word e ∷ ws) kind
-      go true h r = under_local s e ws kind (empty_is_nil (locals_of t s e) h) (tail_stops outcome_of local_at local_words (λ u a. with_local u s e a) any_local local_takes local_again local_stops local_first local_bars t ws kind r)
+      go :
+          (b : Bool) → is_empty (locals_of t s e) ≡ b
+          → cond b (this_word (codes "=") ws >>= λ after. local_alternatives s e t after) (Err TwiceCell) ≡ Err kind
+          → CellStops (state_word s ∷ local_event_word e ∷ ws) kind
+      go true h r =
+          under_local s e ws kind (empty_is_nil (locals_of t s e) h)
+          (tail_stops outcome_of local_at local_words (λ u a. with_local u s e a) any_local local_takes local_again
+          local_stops local_first local_bars t ws kind r)
       go false h r = twice_local s e ws kind h cc
 
-  snoop_cell_stops : (s : State) (e : BusEvent) (ws : Words) (kind : TableKind) → snoop_cell_at t s e ws ≡ Err kind → CellStops (state_word s ∷ bus_event_word e ∷ ws) kind
+  snoop_cell_stops :
+      (s : State) (e : BusEvent) (ws : Words) (kind : TableKind) → snoop_cell_at t s e ws ≡ Err kind
+      → CellStops (state_word s ∷ bus_event_word e ∷ ws) kind
   unfolding snoop_cell_at
   snoop_cell_stops s e ws kind r = go (is_empty (answers_of t s e)) refl r
     where
-      go : (b : Bool) → is_empty (answers_of t s e) ≡ b → cond b (this_word (codes "=") ws >>= λ after. snoop_alternatives s e t after) (Err TwiceCell) ≡ Err kind → CellStops (state_word s ∷ bus_event_word e ∷ ws) kind
-      go true h r = under_snoop s e ws kind (empty_is_nil (answers_of t s e) h) (tail_stops state_of snoop_at snoop_words (λ u a. with_answer u s e a) any_snoop snoop_takes snoop_again snoop_stops snoop_first snoop_bars t ws kind r)
+      go :
+          (b : Bool) → is_empty (answers_of t s e) ≡ b
+          → cond b (this_word (codes "=") ws >>= λ after. snoop_alternatives s e t after) (Err TwiceCell) ≡ Err kind
+          → CellStops (state_word s ∷ bus_event_word e ∷ ws) kind
+      go true h r =
+          under_snoop s e ws kind (empty_is_nil (answers_of t s e) h)
+          (tail_stops state_of snoop_at snoop_words (λ u a. with_answer u s e a) any_snoop snoop_takes snoop_again
+          snoop_stops snoop_first snoop_bars t ws kind r)
       go false h r = twice_snoop s e ws kind h cc
 
   abbrev any_line : State → CellLine
@@ -201,8 +276,15 @@ module _ (t : Table) (done : List Words) (marks : Marks t done) where
   begins_nothing = (any_line M, cell_words (any_line M), omega arith, refl)
 
   -- refused at the second word, or at the first
-  why_second : (s : State) (at : Option (List ℕ)) (kind : TableKind) → kind ≡ UnknownWord → WhyLine done (state_word s ∷ []) at kind
-  why_second s None kind k = record { few = few_one s; new = new_one done (state_word s); why = inr (k, λ p h. state_no_equals s (snoc_last [] p (state_word s) (codes "=") h)) }
+  why_second :
+      (s : State) (at : Option (List ℕ)) (kind : TableKind) → kind ≡ UnknownWord
+      → WhyLine done (state_word s ∷ []) at kind
+  why_second s None kind k =
+      record {
+        few = few_one s;
+        new = new_one done (state_word s);
+        why = inr (k, λ p h. state_no_equals s (snoc_last [] p (state_word s) (codes "=") h));
+      }
   why_second s (Some w) kind k = record { few = few_one s; new = new_one done (state_word s); why = inl k }
 
   no_last : (p : Words) → [] ≡ p ++ codes "=" ∷ [] → ⊥
@@ -213,22 +295,70 @@ module _ (t : Table) (done : List Words) (marks : Marks t done) where
   why_first None kind k = record { few = few_nil 16; new = new_none done; why = inr (k, no_last) }
   why_first (Some w) kind k = record { few = few_nil 16; new = new_none done; why = inl k }
 
-  event_stops : (s : State) (ws : Words) (kind : TableKind) → event_at t s ws ≡ Err kind → CellStops (state_word s ∷ ws) kind
+  event_stops :
+      (s : State) (ws : Words) (kind : TableKind) → event_at t s ws ≡ Err kind → CellStops (state_word s ∷ ws) kind
   unfolding cell_line
-  event_stops s [] kind e = record { front = state_word s ∷ []; at = None; rest = []; parts = refl; begins = begins_state s; why = why_second s None kind cc; local = λ more. rw (state_again s) e }
+  event_stops s [] kind e =
+      record {
+        front = state_word s ∷ [];
+        at = None;
+        rest = [];
+        parts = refl;
+        begins = begins_state s;
+        why = why_second s None kind cc;
+        local = λ more. rw (state_again s) e;
+      }
   event_stops s (w ∷ ws) kind e = go (local_event_of w) (bus_event_of w) refl refl e
     where
-      go : (a : Option LocalEvent) (b : Option BusEvent) → local_event_of w ≡ a → bus_event_of w ≡ b → any_cell t s a b ws ≡ Err kind → CellStops (state_word s ∷ w ∷ ws) kind
-      go (Some v) b h k e = subst (λ (x : List ℕ). CellStops (state_word s ∷ x ∷ ws) kind) (sym (local_event_is w v h)) (local_cell_stops s v ws kind e)
-      go None (Some v) h k e = subst (λ (x : List ℕ). CellStops (state_word s ∷ x ∷ ws) kind) (sym (bus_event_is w v k)) (snoop_cell_stops s v ws kind e)
-      go None None h k e = record { front = state_word s ∷ []; at = Some w; rest = ws; parts = refl; begins = begins_state s; why = why_second s (Some w) kind cc; local = λ more. rw (state_again s, h, k) e }
+      go :
+          (a : Option LocalEvent) (b : Option BusEvent) → local_event_of w ≡ a → bus_event_of w ≡ b
+          → any_cell t s a b ws ≡ Err kind → CellStops (state_word s ∷ w ∷ ws) kind
+      go (Some v) b h k e =
+          subst (λ (x : List ℕ). CellStops (state_word s ∷ x ∷ ws) kind) (sym (local_event_is w v h))
+          (local_cell_stops s v ws kind e)
+      go None (Some v) h k e =
+          subst (λ (x : List ℕ). CellStops (state_word s ∷ x ∷ ws) kind) (sym (bus_event_is w v k))
+          (snoop_cell_stops s v ws kind e)
+      go None None h k e =
+          record {
+            front = state_word s ∷ [];
+            at = Some w;
+            rest = ws;
+            parts = refl;
+            begins = begins_state s;
+            why = why_second s (Some w) kind cc;
+            local = λ more. rw (state_again s, h, k) e;
+          }
 
-  -- Where a cell line is refused: a cell line begins with what stands before, and the refusal stays however the line goes on.
-  pub cell_stops : (ws : Words) (kind : TableKind) → cell_line t ws ≡ Err kind → Stops (cell_line t) BeginsCell (WhyLine done) ws kind
+  -- Where a cell line is refused: a cell line begins with what stands before, and the refusal stays however the line
+  -- goes on.
+  pub cell_stops :
+      (ws : Words) (kind : TableKind) → cell_line t ws ≡ Err kind
+      → Stops (cell_line t) BeginsCell (WhyLine done) ws kind
   unfolding cell_line
-  cell_stops [] kind e = record { front = []; at = None; rest = []; parts = refl; begins = begins_nothing; why = why_first None kind cc; local = λ more. e }
+  cell_stops [] kind e =
+      record {
+        front = [];
+        at = None;
+        rest = [];
+        parts = refl;
+        begins = begins_nothing;
+        why = why_first None kind cc;
+        local = λ more. e;
+      }
   cell_stops (w ∷ ws) kind e = go (state_of w) refl e
     where
-      go : (o : Option State) → state_of w ≡ o → (spelled_by o ws >>= λ state. event_at t state.0 state.1) ≡ Err kind → CellStops (w ∷ ws) kind
-      go None h e = record { front = []; at = Some w; rest = ws; parts = refl; begins = begins_nothing; why = why_first (Some w) kind cc; local = λ more. rw h e }
+      go :
+          (o : Option State) → state_of w ≡ o → (spelled_by o ws >>= λ state. event_at t state.0 state.1) ≡ Err kind
+          → CellStops (w ∷ ws) kind
+      go None h e =
+          record {
+            front = [];
+            at = Some w;
+            rest = ws;
+            parts = refl;
+            begins = begins_nothing;
+            why = why_first (Some w) kind cc;
+            local = λ more. rw h e;
+          }
       go (Some s) h e = subst (λ (x : List ℕ). CellStops (x ∷ ws) kind) (sym (state_is w s h)) (event_stops s ws kind e)

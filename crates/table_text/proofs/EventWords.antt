@@ -12,4 +12,5 @@ none-is (Some x) h = cc
 -- No bus event is written as a local one.
 pub no_local_event : (e : BusEvent) → local_event_of (bus_event_word e) ≡ None
 unfolding local_event_of
-no_local_event e = none-is (local_event_of (bus_event_word e)) (each_bus (λ e. is_none (local_event_of (bus_event_word e))) refl e)
+no_local_event e =
+    none-is (local_event_of (bus_event_word e)) (each_bus (λ e. is_none (local_event_of (bus_event_word e))) refl e)

@@ -76,7 +76,9 @@ local_words_plain a = (outcome_plain a.result, bus a.bus)
 snoop_words_plain : (a : SnoopAction) → AreWords (snoop_words a)
 snoop_words_plain a = (state_plain a.result, signals a.response.ch a.response.di a.response.sl)
   where
-    signals : (ch di sl : Bool) → AreWords (signal_words ch (codes "CH") ++ signal_words di (codes "DI") ++ signal_words sl (codes "SL"))
+    signals :
+        (ch di sl : Bool)
+        → AreWords (signal_words ch (codes "CH") ++ signal_words di (codes "DI") ++ signal_words sl (codes "SL"))
     signals true true true = (refl, (refl, (refl, tt)))
     signals true true false = (refl, (refl, tt))
     signals true false true = (refl, (refl, tt))
@@ -86,14 +88,18 @@ snoop_words_plain a = (state_plain a.result, signals a.response.ch a.response.di
     signals false false true = (refl, tt)
     signals false false false = tt
 
-alternatives_plain : {A : Type 0} (f : A → Words) → ((a : A) → AreWords (f a)) → (alts : List A) → AreWords (alternative_words f alts)
+alternatives_plain :
+    {A : Type 0} (f : A → Words) → ((a : A) → AreWords (f a)) → (alts : List A) → AreWords (alternative_words f alts)
 alternatives_plain f plain [] = tt
 alternatives_plain f plain (a ∷ []) = plain a
-alternatives_plain f plain (a ∷ b ∷ more) = words_append (f a) (bar ∷ alternative_words f (b ∷ more)) (plain a) (refl, alternatives_plain f plain (b ∷ more))
+alternatives_plain f plain (a ∷ b ∷ more) =
+    words_append (f a) (bar ∷ alternative_words f (b ∷ more)) (plain a) (refl, alternatives_plain f plain (b ∷ more))
 
 cell_plain : (c : CellLine) → (0 < length (cell_words c)) × AreWords (cell_words c)
-cell_plain (local s e alts) = (omega arith, (state_plain s, (local_plain e, (refl, alternatives_plain local_words local_words_plain alts))))
-cell_plain (answer s e alts) = (omega arith, (state_plain s, (bus_plain e, (refl, alternatives_plain snoop_words snoop_words_plain alts))))
+cell_plain (local s e alts) =
+    (omega arith, (state_plain s, (local_plain e, (refl, alternatives_plain local_words local_words_plain alts))))
+cell_plain (answer s e alts) =
+    (omega arith, (state_plain s, (bus_plain e, (refl, alternatives_plain snoop_words snoop_words_plain alts))))
 
 pub rows_plain : (cells : List CellLine) → AreLines (map cell_words cells ++ (codes "end" ∷ []) ∷ [])
 rows_plain [] = ((omega arith, (refl, tt)), tt)
@@ -102,7 +108,14 @@ rows_plain (c ∷ cells) = (cell_plain c, rows_plain cells)
 -- ---- a name is a word
 
 high : (c : ℕ) → 36 ≤ c → is_word_byte c ≡ true
-high c le = rw (ne_eqb c 32 (λ e. omega arith), ne_eqb c 9 (λ e. omega arith), ne_eqb c 13 (λ e. omega arith), ne_eqb c 10 (λ e. omega arith), ne_eqb c 35 (λ e. omega arith)) refl
+high c le =
+    rw (
+      ne_eqb c 32 (λ e. omega arith),
+      ne_eqb c 9 (λ e. omega arith),
+      ne_eqb c 13 (λ e. omega arith),
+      ne_eqb c 10 (λ e. omega arith),
+      ne_eqb c 35 (λ e. omega arith),
+    ) refl
 
 name_byte : (c : ℕ) → is_name_byte c ≡ true → is_word_byte c ≡ true
 name_byte c h = elim (or_cases (is_lower_case c || is_digit c) (eqb c 45) h) [
@@ -121,4 +134,5 @@ name_bytes (c ∷ n) h =
 
 pub name_plain : (n : List ℕ) → is_name n ≡ true → is_word n ≡ true
 name_plain [] h = absurd (let parts = and_parts (leb 0 32 && is_lower_case 0) true h in cc)
-name_plain (c ∷ n) h = name_bytes (c ∷ n) (and_parts (leb (length (c ∷ n)) 32 && is_lower_case c) (list_all is_name_byte (c ∷ n)) h).1
+name_plain (c ∷ n) h =
+    name_bytes (c ∷ n) (and_parts (leb (length (c ∷ n)) 32 && is_lower_case c) (list_all is_name_byte (c ∷ n)) h).1

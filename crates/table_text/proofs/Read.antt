@@ -13,23 +13,32 @@ use Rattle.table_text.proofs.TableLaws.{table_takes}
 use Rattle.table_text.proofs.Again.{table_again}
 use Rattle.table_text.proofs.FirstFaults.{table_stops}
 
-pub is_spelled : (name : List ℕ) (u left : Unread) (r : Result Table TableFault) → GivesTable r left (table_at name u) → IfOk r (λ t. IsTable name u t left)
+pub is_spelled :
+    (name : List ℕ) (u left : Unread) (r : Result Table TableFault) → GivesTable r left (table_at name u)
+    → IfOk r (λ t. IsTable name u t left)
 is_spelled name u left (Ok t) given = table_takes name u (t, left) given
 is_spelled name u left (Err e) given = tt
 
-pub is_read : (name : List ℕ) (u left : Unread) (r : Result Table TableFault) → GivesTable r left (table_at name u) → (cells : List CellLine) (rest : List Item) → AllStand (empty_table name) cells → items (places u) ≡ table_items cells ++ rest → IsReadAs r (table_of name cells)
+pub is_read :
+    (name : List ℕ) (u left : Unread) (r : Result Table TableFault) → GivesTable r left (table_at name u)
+    → (cells : List CellLine) (rest : List Item) → AllStand (empty_table name) cells
+    → items (places u) ≡ table_items cells ++ rest → IsReadAs r (table_of name cells)
 is_read name u left (Ok t) given cells rest stand e =
     let found = table_again name u cells rest stand e in
-    let both : ◌≡◌ {A = Result (Table × Unread) Fault} (Ok (t, left)) (Ok (table_of name cells, found.left)) = sym given ∙ found.value in
+    let both : ◌≡◌ {A = Result (Table × Unread) Fault} (Ok (t, left)) (Ok (table_of name cells, found.left)) =
+    sym given ∙ found.value in
     let same : (t, left) ≡ (table_of name cells, found.left) = cc in
     ap (λ (x : Table × Unread). x.0) same
 is_read name u left (Err faults.NoMemory) given cells rest stand e = tt
 is_read name u left (Err (faults.Bad line kind)) given cells rest stand e =
     let found = table_again name u cells rest stand e in
-    let both : ◌≡◌ {A = Result (Table × Unread) Fault} (Err (record { line = line; kind = kind })) (Ok (table_of name cells, found.left)) = sym given ∙ found.value in
+    let both : ◌≡◌ {A = Result (Table × Unread) Fault} (Err (record { line = line; kind = kind }))
+    (Ok (table_of name cells, found.left)) = sym given ∙ found.value in
     absurd cc
 
-pub is_first : (name : List ℕ) (u left : Unread) (r : Result Table TableFault) → GivesTable r left (table_at name u) → IfErr r (λ e. IsFirstFault e (places u))
+pub is_first :
+    (name : List ℕ) (u left : Unread) (r : Result Table TableFault) → GivesTable r left (table_at name u)
+    → IfErr r (λ e. IsFirstFault e (places u))
 is_first name u left (Ok t) given = tt
 is_first name u left (Err faults.NoMemory) given = tt
 is_first name u left (Err (faults.Bad line kind)) given = table_stops name u (record { line = line; kind = kind }) given

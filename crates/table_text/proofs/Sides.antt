@@ -40,28 +40,51 @@ pub record BeginsWith {X : Type 0} (first : List ℕ → Option X) (words_ : Wor
   pub value : X
   pub found : first word ≡ Some value
 
-module _ {A X : Type 0} (first : List ℕ → Option X) (read : TableKind → Words → Result (A × Bool × Words) TableKind) (f : A → Words) (add : Table → A → Table)
-    (again : (missing : TableKind) (a : A) (more : Bool) (rest : Words) → read missing (f a ++ tail more rest) ≡ Ok (a, more, left more rest)) (begins : (a : A) → BeginsWith first (f a)) where
-  no_room_side : (missing : TableKind) (alts : List A) → 0 < length alts → IsSide (no_room first missing (alternative_words f alts))
+module _ {A X : Type 0} (first : List ℕ → Option X) (read : TableKind → Words → Result (A × Bool × Words) TableKind)
+    (f : A → Words) (add : Table → A → Table)
+    (again : (missing : TableKind) (a : A) (more : Bool) (rest : Words)
+    → read missing (f a ++ tail more rest) ≡ Ok (a, more, left more rest))
+    (begins : (a : A) → BeginsWith first (f a)) where
+  no_room_side :
+      (missing : TableKind) (alts : List A) → 0 < length alts
+      → IsSide (no_room first missing (alternative_words f alts))
   no_room_side missing [] some = absurd (omega arith)
   no_room_side missing (a ∷ []) some = let b = begins a in rw (b.words, b.found) tt
   no_room_side missing (a ∷ b ∷ more) some = let b = begins a in rw (b.words, b.found) tt
 
-  pub alternatives_side : (room : ℕ) (missing : TableKind) (t : Table) (alts : List A) → 0 < length alts → IsSide (alternatives first read add room missing t (alternative_words f alts))
+  pub alternatives_side :
+      (room : ℕ) (missing : TableKind) (t : Table) (alts : List A) → 0 < length alts
+      → IsSide (alternatives first read add room missing t (alternative_words f alts))
   unfolding alternatives
   alternatives_side zero missing t alts some = no_room_side missing alts some
   alternatives_side (suc room) missing t [] some = absurd (omega arith)
   alternatives_side (suc room) missing t (a ∷ []) some =
-      let one : read missing (f a) ≡ Ok (a, false, []) = ap (read missing) (sym (append-nil (f a))) ∙ again missing a false [] in
+      let one : read missing (f a) ≡ Ok (a, false, []) =
+      ap (read missing) (sym (append-nil (f a))) ∙ again missing a false [] in
       rw one tt
   alternatives_side (suc room) missing t (a ∷ b ∷ more) some =
-      rw (again missing a true (alternative_words f (b ∷ more))) (alternatives_side room UnknownWord (add t a) (b ∷ more) (omega arith))
+      rw (again missing a true (alternative_words f (b ∷ more)))
+      (alternatives_side room UnknownWord (add t a) (b ∷ more) (omega arith))
 
 local_begins : (a : LocalAction) → BeginsWith outcome_of (local_words a)
-local_begins a = record { word = outcome_word a.result; rest = bus_words a.bus; words = refl; value = a.result; found = outcome_again a.result }
+local_begins a =
+    record {
+      word = outcome_word a.result;
+      rest = bus_words a.bus;
+      words = refl;
+      value = a.result;
+      found = outcome_again a.result;
+    }
 
 snoop_begins : (a : SnoopAction) → BeginsWith state_of (snoop_words a)
-snoop_begins a = record { word = state_word a.result; rest = drop 1 (snoop_words a); words = refl; value = a.result; found = state_again a.result }
+snoop_begins a =
+    record {
+      word = state_word a.result;
+      rest = drop 1 (snoop_words a);
+      words = refl;
+      value = a.result;
+      found = state_again a.result;
+    }
 
 side_if : (b : Bool) (r : Result Table TableKind) → IsSide r → IsSide (cond b r (Err TwiceCell))
 side_if true r h = h
@@ -70,9 +93,15 @@ side_if false r h = tt
 pub cell_side : (t : Table) (c : CellLine) → HasAlternative c → IsSide (cell_line t (cell_words c))
 unfolding cell_line local_cell_at snoop_cell_at
 cell_side t (local s e alts) some =
-    rw (state_again s, local_event_again e) (side_if (is_empty (locals_of t s e)) (local_alternatives s e t (alternative_words local_words alts)) (alternatives_side outcome_of local_at local_words (λ u a. with_local u s e a) local_again local_begins 16 NoCell t alts some))
+    rw (state_again s, local_event_again e)
+    (side_if (is_empty (locals_of t s e)) (local_alternatives s e t (alternative_words local_words alts))
+    (alternatives_side outcome_of local_at local_words (λ u a. with_local u s e a) local_again local_begins 16
+    NoCell t alts some))
 cell_side t (answer s e alts) some =
-    rw (state_again s, no_local_event e, bus_event_again e) (side_if (is_empty (answers_of t s e)) (snoop_alternatives s e t (alternative_words snoop_words alts)) (alternatives_side state_of snoop_at snoop_words (λ u a. with_answer u s e a) snoop_again snoop_begins 16 NoCell t alts some))
+    rw (state_again s, no_local_event e, bus_event_again e)
+    (side_if (is_empty (answers_of t s e)) (snoop_alternatives s e t (alternative_words snoop_words alts))
+    (alternatives_side state_of snoop_at snoop_words (λ u a. with_answer u s e a) snoop_again snoop_begins 16
+    NoCell t alts some))
 
 hard_or_side : {X : Type 0} (kind : TableKind) (r : Result X TableKind) → IsHard kind → IsSide r → r ≡ Err kind → ⊥
 hard_or_side UnknownWord r hard side e = subst IsSide e side
@@ -82,5 +111,9 @@ hard_or_side TwiceCell r hard side e = hard
 hard_or_side (Alternatives n) r hard side e = hard
 
 -- No text of the productions has these words of a line as its prefix.
-pub cell_dead : (t : Table) (front : Words) (at : Option (List ℕ)) (kind : TableKind) → ((more : Words) → cell_line t (front ++ from at more) ≡ Err kind) → IsHard kind → (c : CellLine) (more : Words) → HasAlternative c → cell_words c ≡ front ++ from at more → ⊥
-cell_dead t front at kind stays hard c more some e = hard_or_side kind (cell_line t (cell_words c)) hard (cell_side t c some) (ap (cell_line t) e ∙ stays more)
+pub cell_dead :
+    (t : Table) (front : Words) (at : Option (List ℕ)) (kind : TableKind)
+    → ((more : Words) → cell_line t (front ++ from at more) ≡ Err kind) → IsHard kind → (c : CellLine) (more : Words)
+    → HasAlternative c → cell_words c ≡ front ++ from at more → ⊥
+cell_dead t front at kind stays hard c more some e =
+    hard_or_side kind (cell_line t (cell_words c)) hard (cell_side t c some) (ap (cell_line t) e ∙ stays more)

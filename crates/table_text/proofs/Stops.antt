@@ -20,8 +20,10 @@ use Rattle.fb_text.proofs.LineItems.{from}
 use Rattle.class_words.proofs.WordLaws.{state_is, bus_event_is, outcome_is, outcome_again}
 use Rattle.table_text.proofs.Alternatives.{answer_of, signal_takes}
 
--- what stands before, the word at which it stops or the end of the line, why, and that it stops there however the line goes on
-pub record Stops {X : Type 0} (read : Words → Result X TableKind) (Begins : Words → Type 0) (Why : Words → Option (List ℕ) → TableKind → Type 0) (ws : Words) (kind : TableKind) : Type 0 where
+-- what stands before, the word at which it stops or the end of the line, why, and that it stops there however the line
+-- goes on
+pub record Stops {X : Type 0} (read : Words → Result X TableKind) (Begins : Words → Type 0)
+    (Why : Words → Option (List ℕ) → TableKind → Type 0) (ws : Words) (kind : TableKind) : Type 0 where
   pub front : Words
   pub at : Option (List ℕ)
   pub rest : Words
@@ -40,7 +42,9 @@ abbrev pub WhyOne : TableKind → Words → Option (List ℕ) → TableKind → 
 WhyOne missing front None kind = (front ≡ []) × (kind ≡ missing)
 WhyOne missing front (Some w) kind = kind ≡ UnknownWord
 
-at_word : (missing : TableKind) (v : List ℕ) (front : Words) (at : Option (List ℕ)) (kind : TableKind) → AtWord front at kind → WhyOne missing (v ∷ front) at kind
+at_word :
+    (missing : TableKind) (v : List ℕ) (front : Words) (at : Option (List ℕ)) (kind : TableKind) → AtWord front at kind
+    → WhyOne missing (v ∷ front) at kind
 at_word missing v front None kind h = absurd h
 at_word missing v front (Some w) kind h = h
 
@@ -59,13 +63,27 @@ equal b ws = cond b (Ok ws) (Err UnknownWord)
 abbrev pub any_local : LocalAction
 any_local = local_action (Fixed M) None
 
-bus_stops : (r : Outcome) (w : List ℕ) (ws : Words) (kind : TableKind) (missing : TableKind) → outcome_of (outcome_word r) ≡ Some r → bytes_eq w bar ≡ false → (o : Option BusEvent) → bus_event_of w ≡ o → bus_event_at r o ws ≡ Err kind → Stops (local_rest r) (λ front. IsFrontOf local_words (outcome_word r ∷ front)) AtWord (w ∷ ws) kind
+bus_stops :
+    (r : Outcome) (w : List ℕ) (ws : Words) (kind : TableKind) (missing : TableKind)
+    → outcome_of (outcome_word r) ≡ Some r → bytes_eq w bar ≡ false → (o : Option BusEvent) → bus_event_of w ≡ o
+    → bus_event_at r o ws ≡ Err kind
+    → Stops (local_rest r) (λ front. IsFrontOf local_words (outcome_word r ∷ front)) AtWord (w ∷ ws) kind
 bus_stops r w ws kind missing again nobar None h e =
-    record { front = []; at = Some w; rest = ws; parts = refl; begins = (local_action r None, [], refl); why = cc; local = λ more. rw (nobar, h) e }
+    record {
+      front = [];
+      at = Some w;
+      rest = ws;
+      parts = refl;
+      begins = (local_action r None, [], refl);
+      why = cc;
+      local = λ more. rw (nobar, h) e;
+    }
 bus_stops r w [] kind missing again nobar (Some b) h e = absurd cc
 bus_stops r w (u ∷ us) kind missing again nobar (Some b) h e = go (bytes_eq u bar) refl e
   where
-    go : (x : Bool) → bytes_eq u bar ≡ x → (barred x us >>= with_bus r b) ≡ Err kind → Stops (local_rest r) (λ front. IsFrontOf local_words (outcome_word r ∷ front)) AtWord (w ∷ u ∷ us) kind
+    go :
+        (x : Bool) → bytes_eq u bar ≡ x → (barred x us >>= with_bus r b) ≡ Err kind
+        → Stops (local_rest r) (λ front. IsFrontOf local_words (outcome_word r ∷ front)) AtWord (w ∷ u ∷ us) kind
     go true k e = absurd cc
     go false k e = record {
       front = w ∷ [];
@@ -77,21 +95,49 @@ bus_stops r w (u ∷ us) kind missing again nobar (Some b) h e = go (bytes_eq u 
       local = λ more. rw (nobar, h, k) e;
     }
 
-local_rest_stops : (r : Outcome) (ws : Words) (kind : TableKind) → local_rest r ws ≡ Err kind → Stops (local_rest r) (λ front. IsFrontOf local_words (outcome_word r ∷ front)) AtWord ws kind
+local_rest_stops :
+    (r : Outcome) (ws : Words) (kind : TableKind) → local_rest r ws ≡ Err kind
+    → Stops (local_rest r) (λ front. IsFrontOf local_words (outcome_word r ∷ front)) AtWord ws kind
 local_rest_stops r [] kind e = absurd cc
 local_rest_stops r (w ∷ ws) kind e = go (bytes_eq w bar) refl e
   where
-    go : (x : Bool) → bytes_eq w bar ≡ x → cond x (Ok (local_action r None, true, ws)) (bus_event_at r (bus_event_of w) ws) ≡ Err kind → Stops (local_rest r) (λ front. IsFrontOf local_words (outcome_word r ∷ front)) AtWord (w ∷ ws) kind
+    go :
+        (x : Bool) → bytes_eq w bar ≡ x
+        → cond x (Ok (local_action r None, true, ws)) (bus_event_at r (bus_event_of w) ws) ≡ Err kind
+        → Stops (local_rest r) (λ front. IsFrontOf local_words (outcome_word r ∷ front)) AtWord (w ∷ ws) kind
     go true k e = absurd cc
     go false k e = bus_stops r w ws kind UnknownWord (outcome_again r) k (bus_event_of w) refl e
 
-pub local_stops : (missing : TableKind) (ws : Words) (kind : TableKind) → local_at missing ws ≡ Err kind → Stops (local_at missing) (IsFrontOf local_words) (WhyOne missing) ws kind
+pub local_stops :
+    (missing : TableKind) (ws : Words) (kind : TableKind) → local_at missing ws ≡ Err kind
+    → Stops (local_at missing) (IsFrontOf local_words) (WhyOne missing) ws kind
 unfolding local_at
-local_stops missing [] kind e = record { front = []; at = None; rest = []; parts = refl; begins = (any_local, local_words any_local, refl); why = (refl, cc); local = λ more. e }
+local_stops missing [] kind e =
+    record {
+      front = [];
+      at = None;
+      rest = [];
+      parts = refl;
+      begins = (any_local, local_words any_local, refl);
+      why = (refl, cc);
+      local = λ more. e;
+    }
 local_stops missing (w ∷ ws) kind e = go (outcome_of w) refl e
   where
-    go : (o : Option Outcome) → outcome_of w ≡ o → (spelled_by o ws >>= λ result. local_rest result.0 result.1) ≡ Err kind → Stops (local_at missing) (IsFrontOf local_words) (WhyOne missing) (w ∷ ws) kind
-    go None h e = record { front = []; at = Some w; rest = ws; parts = refl; begins = (any_local, local_words any_local, refl); why = cc; local = λ more. rw h e }
+    go :
+        (o : Option Outcome) → outcome_of w ≡ o
+        → (spelled_by o ws >>= λ result. local_rest result.0 result.1) ≡ Err kind
+        → Stops (local_at missing) (IsFrontOf local_words) (WhyOne missing) (w ∷ ws) kind
+    go None h e =
+        record {
+          front = [];
+          at = Some w;
+          rest = ws;
+          parts = refl;
+          begins = (any_local, local_words any_local, refl);
+          why = cc;
+          local = λ more. rw h e;
+        }
     go (Some r) h e =
         let s = local_rest_stops r ws kind e in
         record {
@@ -99,25 +145,40 @@ local_stops missing (w ∷ ws) kind e = go (outcome_of w) refl e
           at = s.at;
           rest = s.rest;
           parts = ap (λ (v : Words). w ∷ v) s.parts;
-          begins = (s.begins.0, s.begins.1, s.begins.2 ∙ ap (λ (v : List ℕ). v ∷ (s.front ++ s.begins.1)) (sym (outcome_is w r h)));
+          begins = (
+            s.begins.0,
+            s.begins.1,
+            s.begins.2 ∙ ap (λ (v : List ℕ). v ∷ (s.front ++ s.begins.1)) (sym (outcome_is w r h)),
+          );
           why = at_word missing w s.front s.at kind s.why;
           local = λ more. rw h (s.local more);
         }
 
 -- a signal is told apart by the next word alone
-not_next : (name : List ℕ) (front : Words) (u : List ℕ) (us more : Words) → (signal_at name (front ++ u ∷ us)).0 ≡ false → signal_at name (front ++ u ∷ more) ≡ (false, front ++ u ∷ more)
+not_next :
+    (name : List ℕ) (front : Words) (u : List ℕ) (us more : Words) → (signal_at name (front ++ u ∷ us)).0 ≡ false
+    → signal_at name (front ++ u ∷ more) ≡ (false, front ++ u ∷ more)
 not_next name [] u us more e = go (bytes_eq u name) refl e
   where
-    go : (x : Bool) → bytes_eq u name ≡ x → (cond {A = Bool × Words} x (true, us) (false, u ∷ us)).0 ≡ false → cond {A = Bool × Words} (bytes_eq u name) (true, more) (false, u ∷ more) ≡ (false, u ∷ more)
+    go :
+        (x : Bool) → bytes_eq u name ≡ x → (cond {A = Bool × Words} x (true, us) (false, u ∷ us)).0 ≡ false
+        → cond {A = Bool × Words} (bytes_eq u name) (true, more) (false, u ∷ more) ≡ (false, u ∷ more)
     go true h e = absurd cc
     go false h e = rw h refl
 not_next name (p ∷ ps) u us more e = go (bytes_eq p name) refl e
   where
-    go : (x : Bool) → bytes_eq p name ≡ x → (cond {A = Bool × Words} x (true, ps ++ u ∷ us) (false, p ∷ (ps ++ u ∷ us))).0 ≡ false → cond {A = Bool × Words} (bytes_eq p name) (true, ps ++ u ∷ more) (false, p ∷ (ps ++ u ∷ more)) ≡ (false, p ∷ (ps ++ u ∷ more))
+    go :
+        (x : Bool) → bytes_eq p name ≡ x
+        → (cond {A = Bool × Words} x (true, ps ++ u ∷ us) (false, p ∷ (ps ++ u ∷ us))).0 ≡ false
+        → cond {A = Bool × Words} (bytes_eq p name) (true, ps ++ u ∷ more) (false, p ∷ (ps ++ u ∷ more))
+        ≡ (false, p ∷ (ps ++ u ∷ more))
     go true h e = absurd cc
     go false h e = rw h refl
 
-signal_local : (name : List ℕ) → bytes_eq name name ≡ true → (b : Bool) (front : Words) (u : List ℕ) (us more : Words) → (signal_at name (signal_words b name ++ (front ++ u ∷ us))).0 ≡ b → signal_at name (signal_words b name ++ (front ++ u ∷ more)) ≡ (b, front ++ u ∷ more)
+signal_local :
+    (name : List ℕ) → bytes_eq name name ≡ true → (b : Bool) (front : Words) (u : List ℕ) (us more : Words)
+    → (signal_at name (signal_words b name ++ (front ++ u ∷ us))).0 ≡ b
+    → signal_at name (signal_words b name ++ (front ++ u ∷ more)) ≡ (b, front ++ u ∷ more)
 signal_local name same true front u us more e = rw same refl
 signal_local name same false front u us more e = not_next name front u us more e
 
@@ -128,35 +189,51 @@ abbrev pub refused : {X : Type 0} → TableKind → Result X TableKind
 refused k = Err k
 
 snoop_local : (s : State) (ch di sl : Bool) (u : List ℕ) (us : Words) → bytes_eq u bar ≡ false
-    → (signal_at (codes "CH") (signal_words ch (codes "CH") ++ (signal_words di (codes "DI") ++ (signal_words sl (codes "SL") ++ u ∷ us)))).0 ≡ ch
+    → (signal_at (codes "CH") (signal_words ch (codes "CH")
+    ++ (signal_words di (codes "DI") ++ (signal_words sl (codes "SL") ++ u ∷ us)))).0 ≡ ch
     → (signal_at (codes "DI") (signal_words di (codes "DI") ++ (signal_words sl (codes "SL") ++ u ∷ us))).0 ≡ di
     → (signal_at (codes "SL") (signal_words sl (codes "SL") ++ u ∷ us)).0 ≡ sl
-    → (more : Words) → snoop_rest s (signal_words ch (codes "CH") ++ (signal_words di (codes "DI") ++ (signal_words sl (codes "SL") ++ u ∷ more))) ≡ Err UnknownWord
+    → (more : Words)
+    → snoop_rest s (signal_words ch (codes "CH")
+    ++ (signal_words di (codes "DI") ++ (signal_words sl (codes "SL") ++ u ∷ more))) ≡ Err UnknownWord
 snoop_local s ch di sl u us k p1 p2 p3 more =
     let d : Words = signal_words di (codes "DI") in
     let l : Words = signal_words sl (codes "SL") in
     let c : Words = signal_words ch (codes "CH") in
-    let was : c ++ (d ++ (l ++ u ∷ us)) ≡ c ++ ((d ++ l) ++ u ∷ us) = ap (λ (v : Words). c ++ v) (sym (append_assoc d l (u ∷ us))) in
-    let now : c ++ (d ++ (l ++ u ∷ more)) ≡ c ++ ((d ++ l) ++ u ∷ more) = ap (λ (v : Words). c ++ v) (sym (append_assoc d l (u ∷ more))) in
+    let was : c ++ (d ++ (l ++ u ∷ us)) ≡ c ++ ((d ++ l) ++ u ∷ us) =
+    ap (λ (v : Words). c ++ v) (sym (append_assoc d l (u ∷ us))) in
+    let now : c ++ (d ++ (l ++ u ∷ more)) ≡ c ++ ((d ++ l) ++ u ∷ more) =
+    ap (λ (v : Words). c ++ v) (sym (append_assoc d l (u ∷ more))) in
     let s1 : signal_at (codes "CH") (c ++ (d ++ (l ++ u ∷ more))) ≡ (ch, d ++ (l ++ u ∷ more)) =
-    ap (signal_at (codes "CH")) now ∙ (signal_local (codes "CH") refl ch (d ++ l) u us more (ap (λ (v : Words). (signal_at (codes "CH") v).0) (sym was) ∙ p1) ∙ ap (λ (v : Words). (ch, v)) (append_assoc d l (u ∷ more))) in
-    let s2 : signal_at (codes "DI") (d ++ (l ++ u ∷ more)) ≡ (di, l ++ u ∷ more) = signal_local (codes "DI") refl di l u us more p2 in
-    let s3 : signal_at (codes "SL") (l ++ u ∷ more) ≡ (sl, u ∷ more) = signal_local (codes "SL") refl sl [] u us more p3 in
+    ap (signal_at (codes "CH")) now
+    ∙ (signal_local (codes "CH") refl ch (d ++ l) u us more
+    (ap (λ (v : Words). (signal_at (codes "CH") v).0) (sym was) ∙ p1)
+    ∙ ap (λ (v : Words). (ch, v)) (append_assoc d l (u ∷ more))) in
+    let s2 : signal_at (codes "DI") (d ++ (l ++ u ∷ more)) ≡ (di, l ++ u ∷ more) =
+    signal_local (codes "DI") refl di l u us more p2 in
+    let s3 : signal_at (codes "SL") (l ++ u ∷ more) ≡ (sl, u ∷ more) =
+    signal_local (codes "SL") refl sl [] u us more p3 in
     rw (s1, s2, s3, k) refl
 
 abbrev answered : State → Bool → Bool → Bool → Bool × Words → Result (SnoopAction × Bool × Words) TableKind
 answered s ch di sl after = Ok (answer_of s ch di sl, after.0, after.1)
 
 -- the signals that stand in front of other words
-split_signal : (name : List ℕ) (ws : Words) (x : Bool × Words) → signal_at name ws ≡ x → ws ≡ signal_words x.0 name ++ x.1
+split_signal :
+    (name : List ℕ) (ws : Words) (x : Bool × Words) → signal_at name ws ≡ x → ws ≡ signal_words x.0 name ++ x.1
 split_signal name ws x e = subst (λ (y : Bool × Words). ws ≡ signal_words y.0 name ++ y.1) e (signal_takes name ws)
 
-snoop_found : (s : State) (ws : Words) (kind : TableKind) (ch di sl : Bool × Words) → signal_at (codes "CH") ws ≡ ch → signal_at (codes "DI") ch.1 ≡ di → signal_at (codes "SL") di.1 ≡ sl
-    → (r : Words) → sl.1 ≡ r → (bar_or_end r >>= answered s ch.0 di.0 sl.0) ≡ Err kind → Stops (snoop_rest s) (λ front. IsFrontOf snoop_words (state_word s ∷ front)) AtWord ws kind
+snoop_found :
+    (s : State) (ws : Words) (kind : TableKind) (ch di sl : Bool × Words) → signal_at (codes "CH") ws ≡ ch
+    → signal_at (codes "DI") ch.1 ≡ di → signal_at (codes "SL") di.1 ≡ sl
+    → (r : Words) → sl.1 ≡ r → (bar_or_end r >>= answered s ch.0 di.0 sl.0) ≡ Err kind
+    → Stops (snoop_rest s) (λ front. IsFrontOf snoop_words (state_word s ∷ front)) AtWord ws kind
 snoop_found s ws kind ch di sl e1 e2 e3 [] h e = absurd cc
 snoop_found s ws kind ch di sl e1 e2 e3 (u ∷ us) h e = go (bytes_eq u bar) refl e
   where
-    go : (x : Bool) → bytes_eq u bar ≡ x → (barred x us >>= answered s ch.0 di.0 sl.0) ≡ Err kind → Stops (snoop_rest s) (λ front. IsFrontOf snoop_words (state_word s ∷ front)) AtWord ws kind
+    go :
+        (x : Bool) → bytes_eq u bar ≡ x → (barred x us >>= answered s ch.0 di.0 sl.0) ≡ Err kind
+        → Stops (snoop_rest s) (λ front. IsFrontOf snoop_words (state_word s ∷ front)) AtWord ws kind
     go true k e = absurd cc
     go false k e =
         let c : Words = signal_words ch.0 (codes "CH") in
@@ -165,9 +242,11 @@ snoop_found s ws kind ch di sl e1 e2 e3 (u ∷ us) h e = go (bytes_eq u bar) ref
         let w3 : di.1 ≡ l ++ u ∷ us = split_signal (codes "SL") di.1 sl e3 ∙ ap (λ (v : Words). l ++ v) h in
         let w2 : ch.1 ≡ d ++ (l ++ u ∷ us) = split_signal (codes "DI") ch.1 di e2 ∙ ap (λ (v : Words). d ++ v) w3 in
         let w1 : ws ≡ c ++ (d ++ (l ++ u ∷ us)) = split_signal (codes "CH") ws ch e1 ∙ ap (λ (v : Words). c ++ v) w2 in
-        let regroup : (v : Words) → (c ++ (d ++ l)) ++ v ≡ c ++ (d ++ (l ++ v)) = λ v. append_assoc c (d ++ l) v ∙ ap (λ (x : Words). c ++ x) (append_assoc d l v) in
+        let regroup : (v : Words) → (c ++ (d ++ l)) ++ v ≡ c ++ (d ++ (l ++ v)) =
+        λ v. append_assoc c (d ++ l) v ∙ ap (λ (x : Words). c ++ x) (append_assoc d l v) in
         let same : UnknownWord ≡ kind = cc in
-        let stays : (more : Words) → snoop_rest s (c ++ (d ++ (l ++ u ∷ more))) ≡ Err UnknownWord = snoop_local s ch.0 di.0 sl.0 u us k
+        let stays : (more : Words) → snoop_rest s (c ++ (d ++ (l ++ u ∷ more))) ≡ Err UnknownWord =
+        snoop_local s ch.0 di.0 sl.0 u us k
         (ap (λ (v : Words). (signal_at (codes "CH") v).0) (sym w1) ∙ ap (λ (y : Bool × Words). y.0) e1)
         (ap (λ (v : Words). (signal_at (codes "DI") v).0) (sym w2) ∙ ap (λ (y : Bool × Words). y.0) e2)
         (ap (λ (v : Words). (signal_at (codes "SL") v).0) (sym w3) ∙ ap (λ (y : Bool × Words). y.0) e3) in
@@ -176,24 +255,53 @@ snoop_found s ws kind ch di sl e1 e2 e3 (u ∷ us) h e = go (bytes_eq u bar) ref
           at = Some u;
           rest = us;
           parts = w1 ∙ sym (regroup (u ∷ us));
-          begins = (answer_of s ch.0 di.0 sl.0, [], ap (λ (v : Words). state_word s ∷ v) (append_assoc c d l ∙ sym (append-nil (c ++ (d ++ l)))));
+          begins = (
+            answer_of s ch.0 di.0 sl.0,
+            [],
+            ap (λ (v : Words). state_word s ∷ v) (append_assoc c d l ∙ sym (append-nil (c ++ (d ++ l)))),
+          );
           why = sym same;
-          local = λ more. ap (snoop_rest s) (regroup (u ∷ more)) ∙ (stays more ∙ ap (λ (k : TableKind). refused k) same);
+          local =
+              λ more. ap (snoop_rest s) (regroup (u ∷ more)) ∙ (stays more ∙ ap (λ (k : TableKind). refused k) same);
         }
 
-snoop_rest_stops : (s : State) (ws : Words) (kind : TableKind) → snoop_rest s ws ≡ Err kind → Stops (snoop_rest s) (λ front. IsFrontOf snoop_words (state_word s ∷ front)) AtWord ws kind
+snoop_rest_stops :
+    (s : State) (ws : Words) (kind : TableKind) → snoop_rest s ws ≡ Err kind
+    → Stops (snoop_rest s) (λ front. IsFrontOf snoop_words (state_word s ∷ front)) AtWord ws kind
 snoop_rest_stops s ws kind e = snoop_found s ws kind _ _ _ refl refl refl _ refl e
 
 abbrev pub any_snoop : SnoopAction
 any_snoop = answer_of M false false false
 
-pub snoop_stops : (missing : TableKind) (ws : Words) (kind : TableKind) → snoop_at missing ws ≡ Err kind → Stops (snoop_at missing) (IsFrontOf snoop_words) (WhyOne missing) ws kind
+pub snoop_stops :
+    (missing : TableKind) (ws : Words) (kind : TableKind) → snoop_at missing ws ≡ Err kind
+    → Stops (snoop_at missing) (IsFrontOf snoop_words) (WhyOne missing) ws kind
 unfolding snoop_at
-snoop_stops missing [] kind e = record { front = []; at = None; rest = []; parts = refl; begins = (any_snoop, snoop_words any_snoop, refl); why = (refl, cc); local = λ more. e }
+snoop_stops missing [] kind e =
+    record {
+      front = [];
+      at = None;
+      rest = [];
+      parts = refl;
+      begins = (any_snoop, snoop_words any_snoop, refl);
+      why = (refl, cc);
+      local = λ more. e;
+    }
 snoop_stops missing (w ∷ ws) kind e = go (state_of w) refl e
   where
-    go : (o : Option State) → state_of w ≡ o → (spelled_by o ws >>= λ state. snoop_rest state.0 state.1) ≡ Err kind → Stops (snoop_at missing) (IsFrontOf snoop_words) (WhyOne missing) (w ∷ ws) kind
-    go None h e = record { front = []; at = Some w; rest = ws; parts = refl; begins = (any_snoop, snoop_words any_snoop, refl); why = cc; local = λ more. rw h e }
+    go :
+        (o : Option State) → state_of w ≡ o → (spelled_by o ws >>= λ state. snoop_rest state.0 state.1) ≡ Err kind
+        → Stops (snoop_at missing) (IsFrontOf snoop_words) (WhyOne missing) (w ∷ ws) kind
+    go None h e =
+        record {
+          front = [];
+          at = Some w;
+          rest = ws;
+          parts = refl;
+          begins = (any_snoop, snoop_words any_snoop, refl);
+          why = cc;
+          local = λ more. rw h e;
+        }
     go (Some r) h e =
         let s = snoop_rest_stops r ws kind e in
         record {
@@ -201,7 +309,11 @@ snoop_stops missing (w ∷ ws) kind e = go (state_of w) refl e
           at = s.at;
           rest = s.rest;
           parts = ap (λ (v : Words). w ∷ v) s.parts;
-          begins = (s.begins.0, s.begins.1, s.begins.2 ∙ ap (λ (v : List ℕ). v ∷ (s.front ++ s.begins.1)) (sym (state_is w r h)));
+          begins = (
+            s.begins.0,
+            s.begins.1,
+            s.begins.2 ∙ ap (λ (v : List ℕ). v ∷ (s.front ++ s.begins.1)) (sym (state_is w r h)),
+          );
           why = at_word missing w s.front s.at kind s.why;
           local = λ more. rw h (s.local more);
         }

@@ -32,7 +32,8 @@ abbrev pub all_added : {A : Type 0} → (Table → A → Table) → Table → Li
 all_added add t [] = t
 all_added add t (a ∷ more) = all_added add (add t a) more
 
-pub record TakesAll {A : Type 0} (f : A → Words) (add : Table → A → Table) (room : ℕ) (t : Table) (ws : Words) (after : Table) : Type 0 where
+pub record TakesAll {A : Type 0} (f : A → Words) (add : Table → A → Table) (room : ℕ) (t : Table) (ws : Words)
+    (after : Table) : Type 0 where
   pub alts : List A
   pub some : 0 < length alts
   pub few : length alts ≤ room
@@ -42,12 +43,18 @@ pub record TakesAll {A : Type 0} (f : A → Words) (add : Table → A → Table)
 abbrev refused : Result Table TableKind
 refused = Err (Alternatives 17)
 
-module _ {A X : Type 0} (first : List ℕ → Option X) (read : TableKind → Words → Result (A × Bool × Words) TableKind) (f : A → Words) (add : Table → A → Table) (takes : (missing : TableKind) (ws : Words) (x : A × Bool × Words) → read missing ws ≡ Ok x → ws ≡ f x.0 ++ tail x.1 x.2) where
-  in_front : (a : A) (alts : List A) → 0 < length alts → f a ++ bar ∷ alternative_words f alts ≡ alternative_words f (a ∷ alts)
+module _ {A X : Type 0} (first : List ℕ → Option X) (read : TableKind → Words → Result (A × Bool × Words) TableKind)
+    (f : A → Words) (add : Table → A → Table)
+    (takes : (missing : TableKind) (ws : Words) (x : A × Bool × Words) → read missing ws ≡ Ok x
+    → ws ≡ f x.0 ++ tail x.1 x.2) where
+  in_front :
+      (a : A) (alts : List A) → 0 < length alts → f a ++ bar ∷ alternative_words f alts ≡ alternative_words f (a ∷ alts)
   in_front a [] some = absurd (omega arith)
   in_front a (b ∷ more) some = refl
 
-  with_front : (room : ℕ) (t : Table) (ws : Words) (after : Table) (a : A) (rest : Words) → ws ≡ f a ++ bar ∷ rest → TakesAll f add room (add t a) rest after → TakesAll f add (suc room) t ws after
+  with_front :
+      (room : ℕ) (t : Table) (ws : Words) (after : Table) (a : A) (rest : Words) → ws ≡ f a ++ bar ∷ rest
+      → TakesAll f add room (add t a) rest after → TakesAll f add (suc room) t ws after
   with_front room t ws after a rest h others = record {
     alts = a ∷ others.alts;
     some = omega arith;
@@ -56,7 +63,9 @@ module _ {A X : Type 0} (first : List ℕ → Option X) (read : TableKind → Wo
     added = others.added;
   }
 
-  alone : (room : ℕ) (t : Table) (ws : Words) (after : Table) (a : A) → ws ≡ f a ++ [] → add t a ≡ after → TakesAll f add (suc room) t ws after
+  alone :
+      (room : ℕ) (t : Table) (ws : Words) (after : Table) (a : A) → ws ≡ f a ++ [] → add t a ≡ after
+      → TakesAll f add (suc room) t ws after
   alone room t ws after a h e = record {
     alts = a ∷ [];
     some = omega arith;
@@ -65,24 +74,33 @@ module _ {A X : Type 0} (first : List ℕ → Option X) (read : TableKind → Wo
     added = sym e;
   }
 
-  more_or_not : (room : ℕ) (t : Table) (ws : Words) (after : Table) (a : A) (more : Bool) (rest : Words) (others : Result Table TableKind) → (others ≡ Ok after → TakesAll f add room (add t a) rest after) → ws ≡ f a ++ tail more rest → cond more others (Ok (add t a)) ≡ Ok after → TakesAll f add (suc room) t ws after
+  more_or_not :
+      (room : ℕ) (t : Table) (ws : Words) (after : Table) (a : A) (more : Bool) (rest : Words)
+      (others : Result Table TableKind) → (others ≡ Ok after → TakesAll f add room (add t a) rest after)
+      → ws ≡ f a ++ tail more rest → cond more others (Ok (add t a)) ≡ Ok after → TakesAll f add (suc room) t ws after
   more_or_not room t ws after a true rest others ih h e = with_front room t ws after a rest h (ih e)
   more_or_not room t ws after a false rest others ih h e = alone room t ws after a h (ok_is (add t a) after e)
 
-  pub alternatives_take : (room : ℕ) (missing : TableKind) (t : Table) (ws : Words) (after : Table) → alternatives first read add room missing t ws ≡ Ok after → TakesAll f add room t ws after
+  pub alternatives_take :
+      (room : ℕ) (missing : TableKind) (t : Table) (ws : Words) (after : Table)
+      → alternatives first read add room missing t ws ≡ Ok after → TakesAll f add room t ws after
   unfolding alternatives
-  alternatives_take zero missing t ws after e = let none = bind_ok (word_by first missing ws) seventeenth after e in absurd (no_more none.2)
+  alternatives_take zero missing t ws after e =
+      let none = bind_ok (word_by first missing ws) seventeenth after e in absurd (no_more none.2)
     where
       no_more : refused ≡ Ok after → ⊥
       no_more e = cc
   alternatives_take (suc room) missing t ws after e =
-      let a = bind_ok (read missing ws) (λ x. cond x.1 (alternatives first read add room UnknownWord (add t x.0) x.2) (Ok (add t x.0))) after e in
-      more_or_not room t ws after a.0.0 a.0.1 a.0.2 (alternatives first read add room UnknownWord (add t a.0.0) a.0.2) (λ h. alternatives_take room UnknownWord (add t a.0.0) a.0.2 after h) (takes missing ws a.0 a.1) a.2
+      let a = bind_ok (read missing ws)
+      (λ x. cond x.1 (alternatives first read add room UnknownWord (add t x.0) x.2) (Ok (add t x.0))) after e in
+      more_or_not room t ws after a.0.0 a.0.1 a.0.2 (alternatives first read add room UnknownWord (add t a.0.0) a.0.2)
+      (λ h. alternatives_take room UnknownWord (add t a.0.0) a.0.2 after h) (takes missing ws a.0 a.1) a.2
 
 -- ---- a cell
 
 -- a test that had to hold for anything to be read
-wanted_first : {A E : Type 0} (b : Bool) (r : Result A E) (y : A) (d : E) → cond b r (Err d) ≡ Ok y → (b ≡ true) × (r ≡ Ok y)
+wanted_first :
+    {A E : Type 0} (b : Bool) (r : Result A E) (y : A) (d : E) → cond b r (Err d) ≡ Ok y → (b ≡ true) × (r ≡ Ok y)
 wanted_first true r y d e = (refl, e)
 wanted_first false r y d e = absurd cc
 
@@ -112,23 +130,43 @@ place_snoop s e = omega (arith, low s, bus_below e)
     low I = omega arith
 
 -- a row that gets items one after another gets them all
-row_added : {X : Type 0} (rows : List (List X)) (p : ℕ) (x : X) (more : List X) → p < length rows → slice_set (slice_set rows p (get_or rows p [] ++ x ∷ [])) p (get_or (slice_set rows p (get_or rows p [] ++ x ∷ [])) p [] ++ more) ≡ slice_set rows p (get_or rows p [] ++ x ∷ more)
-row_added rows p x more lt = rw (get_or-set_same rows p (get_or rows p [] ++ x ∷ []) [] lt, set-set rows p, append_assoc (get_or rows p []) (x ∷ []) more) refl
+row_added :
+    {X : Type 0} (rows : List (List X)) (p : ℕ) (x : X) (more : List X) → p < length rows
+    → slice_set (slice_set rows p (get_or rows p [] ++ x ∷ [])) p
+    (get_or (slice_set rows p (get_or rows p [] ++ x ∷ [])) p [] ++ more)
+    ≡ slice_set rows p (get_or rows p [] ++ x ∷ more)
+row_added rows p x more lt =
+    rw (
+      get_or-set_same rows p (get_or rows p [] ++ x ∷ []) [] lt,
+      set-set rows p,
+      append_assoc (get_or rows p []) (x ∷ []) more,
+    ) refl
 
 row_kept : {X : Type 0} (rows : List (List X)) (p : ℕ) → slice_set rows p (get_or rows p [] ++ []) ≡ rows
 row_kept rows p = rw (append-nil (get_or rows p [])) (set-get_or rows p [])
 
-pub local_added : (s : State) (e : LocalEvent) (t : Table) (alts : List LocalAction) → local_cell s e < length t.locals → all_added (λ u a. with_local u s e a) t alts ≡ record t { locals = slice_set t.locals (local_cell s e) (locals_of t s e ++ alts) }
-local_added s e t [] lt = ap (λ (rows : List (List LocalAction)). record t { locals = rows }) (sym (row_kept t.locals (local_cell s e)))
+pub local_added :
+    (s : State) (e : LocalEvent) (t : Table) (alts : List LocalAction) → local_cell s e < length t.locals
+    → all_added (λ u a. with_local u s e a) t alts
+    ≡ record t { locals = slice_set t.locals (local_cell s e) (locals_of t s e ++ alts) }
+local_added s e t [] lt =
+    ap (λ (rows : List (List LocalAction)). record t { locals = rows }) (sym (row_kept t.locals (local_cell s e)))
 local_added s e t (a ∷ alts) lt =
     local_added s e (with_local t s e a) alts (rw (length-set t.locals (local_cell s e) (locals_of t s e ++ a ∷ [])) lt)
-    ∙ ap (λ (rows : List (List LocalAction)). record t { locals = rows }) (row_added t.locals (local_cell s e) a alts lt)
+    ∙ ap (λ (rows : List (List LocalAction)). record t { locals = rows })
+    (row_added t.locals (local_cell s e) a alts lt)
 
-pub snoop_added : (s : State) (e : BusEvent) (t : Table) (alts : List SnoopAction) → answer_cell s e < length t.answers → all_added (λ u a. with_answer u s e a) t alts ≡ record t { answers = slice_set t.answers (answer_cell s e) (answers_of t s e ++ alts) }
-snoop_added s e t [] lt = ap (λ (rows : List (List SnoopAction)). record t { answers = rows }) (sym (row_kept t.answers (answer_cell s e)))
+pub snoop_added :
+    (s : State) (e : BusEvent) (t : Table) (alts : List SnoopAction) → answer_cell s e < length t.answers
+    → all_added (λ u a. with_answer u s e a) t alts
+    ≡ record t { answers = slice_set t.answers (answer_cell s e) (answers_of t s e ++ alts) }
+snoop_added s e t [] lt =
+    ap (λ (rows : List (List SnoopAction)). record t { answers = rows }) (sym (row_kept t.answers (answer_cell s e)))
 snoop_added s e t (a ∷ alts) lt =
-    snoop_added s e (with_answer t s e a) alts (rw (length-set t.answers (answer_cell s e) (answers_of t s e ++ a ∷ [])) lt)
-    ∙ ap (λ (rows : List (List SnoopAction)). record t { answers = rows }) (row_added t.answers (answer_cell s e) a alts lt)
+    snoop_added s e (with_answer t s e a) alts
+    (rw (length-set t.answers (answer_cell s e) (answers_of t s e ++ a ∷ [])) lt)
+    ∙ ap (λ (rows : List (List SnoopAction)). record t { answers = rows })
+    (row_added t.answers (answer_cell s e) a alts lt)
 
 -- a cell line and what it enters
 pub record IsCellLine (t : Table) (ws : Words) (after : Table) : Type 0 where
@@ -148,60 +186,93 @@ pub empty_is_nil : {X : Type 0} (xs : List X) → is_empty xs ≡ true → xs �
 empty_is_nil [] e = refl
 empty_is_nil (x ∷ xs) e = absurd cc
 
-local_cell_takes : (t : Table) (s : State) (e : LocalEvent) (ws : Words) (after : Table) → HasAllCells t → local_cell_at t s e ws ≡ Ok after → IsCellLine t (state_word s ∷ local_event_word e ∷ ws) after
+local_cell_takes :
+    (t : Table) (s : State) (e : LocalEvent) (ws : Words) (after : Table) → HasAllCells t
+    → local_cell_at t s e ws ≡ Ok after → IsCellLine t (state_word s ∷ local_event_word e ∷ ws) after
 unfolding local_cell_at
 local_cell_takes t s e ws after whole r =
-    let h = wanted_first (is_empty (locals_of t s e)) (this_word (codes "=") ws >>= λ rest. local_alternatives s e t rest) after TwiceCell r in
+    let h = wanted_first (is_empty (locals_of t s e))
+    (this_word (codes "=") ws >>= λ rest. local_alternatives s e t rest) after TwiceCell r in
     let a = bind_ok (this_word (codes "=") ws) (λ rest. local_alternatives s e t rest) after h.1 in
-    let found = alternatives_take outcome_of local_at local_words (λ u x. with_local u s e x) local_takes 16 NoCell t a.0 after a.2 in
+    let found = alternatives_take outcome_of local_at local_words (λ u x. with_local u s e x) local_takes 16 NoCell t
+    a.0 after a.2 in
     record {
       line = local s e found.alts;
       some = found.some;
       can = (empty_is_nil (locals_of t s e) h.0, found.some, found.few);
-      words = ap (λ (v : Words). state_word s ∷ local_event_word e ∷ v) (this_takes (codes "=") ws a.0 a.1 ∙ ap (λ (v : Words). codes "=" ∷ v) found.words);
+      words =
+          ap (λ (v : Words). state_word s ∷ local_event_word e ∷ v)
+          (this_takes (codes "=") ws a.0 a.1 ∙ ap (λ (v : Words). codes "=" ∷ v) found.words);
       enters = found.added ∙ local_added s e t found.alts (omega (arith, place_local s e, whole.local))
-          ∙ ap (λ (row : List LocalAction). record t { locals = slice_set t.locals (local_cell s e) (row ++ found.alts) }) (empty_is_nil (locals_of t s e) h.0);
+          ∙ ap (λ (row : List LocalAction).
+          record t { locals = slice_set t.locals (local_cell s e) (row ++ found.alts) })
+          (empty_is_nil (locals_of t s e) h.0);
     }
 
-snoop_cell_takes : (t : Table) (s : State) (e : BusEvent) (ws : Words) (after : Table) → HasAllCells t → snoop_cell_at t s e ws ≡ Ok after → IsCellLine t (state_word s ∷ bus_event_word e ∷ ws) after
+snoop_cell_takes :
+    (t : Table) (s : State) (e : BusEvent) (ws : Words) (after : Table) → HasAllCells t
+    → snoop_cell_at t s e ws ≡ Ok after → IsCellLine t (state_word s ∷ bus_event_word e ∷ ws) after
 unfolding snoop_cell_at
 snoop_cell_takes t s e ws after whole r =
-    let h = wanted_first (is_empty (answers_of t s e)) (this_word (codes "=") ws >>= λ rest. snoop_alternatives s e t rest) after TwiceCell r in
+    let h = wanted_first (is_empty (answers_of t s e))
+    (this_word (codes "=") ws >>= λ rest. snoop_alternatives s e t rest) after TwiceCell r in
     let a = bind_ok (this_word (codes "=") ws) (λ rest. snoop_alternatives s e t rest) after h.1 in
-    let found = alternatives_take state_of snoop_at snoop_words (λ u x. with_answer u s e x) snoop_takes 16 NoCell t a.0 after a.2 in
+    let found = alternatives_take state_of snoop_at snoop_words (λ u x. with_answer u s e x) snoop_takes 16 NoCell t a.0
+    after a.2 in
     record {
       line = answer s e found.alts;
       some = found.some;
       can = (empty_is_nil (answers_of t s e) h.0, found.some, found.few);
-      words = ap (λ (v : Words). state_word s ∷ bus_event_word e ∷ v) (this_takes (codes "=") ws a.0 a.1 ∙ ap (λ (v : Words). codes "=" ∷ v) found.words);
+      words =
+          ap (λ (v : Words). state_word s ∷ bus_event_word e ∷ v)
+          (this_takes (codes "=") ws a.0 a.1 ∙ ap (λ (v : Words). codes "=" ∷ v) found.words);
       enters = found.added ∙ snoop_added s e t found.alts (omega (arith, place_snoop s e, whole.snoop))
-          ∙ ap (λ (row : List SnoopAction). record t { answers = slice_set t.answers (answer_cell s e) (row ++ found.alts) }) (empty_is_nil (answers_of t s e) h.0);
+          ∙ ap (λ (row : List SnoopAction).
+          record t { answers = slice_set t.answers (answer_cell s e) (row ++ found.alts) })
+          (empty_is_nil (answers_of t s e) h.0);
     }
 
-event_takes : (t : Table) (s : State) (ws : Words) (after : Table) → HasAllCells t → event_at t s ws ≡ Ok after → IsCellLine t (state_word s ∷ ws) after
+event_takes :
+    (t : Table) (s : State) (ws : Words) (after : Table) → HasAllCells t → event_at t s ws ≡ Ok after
+    → IsCellLine t (state_word s ∷ ws) after
 event_takes t s [] after whole r = absurd cc
 event_takes t s (w ∷ ws) after whole r = go (local_event_of w) (bus_event_of w) refl refl r
   where
-    go : (a : Option LocalEvent) (b : Option BusEvent) → local_event_of w ≡ a → bus_event_of w ≡ b → any_cell t s a b ws ≡ Ok after → IsCellLine t (state_word s ∷ w ∷ ws) after
-    go (Some e) b h k r = subst (λ (v : List ℕ). IsCellLine t (state_word s ∷ v ∷ ws) after) (sym (local_event_is w e h)) (local_cell_takes t s e ws after whole r)
-    go None (Some e) h k r = subst (λ (v : List ℕ). IsCellLine t (state_word s ∷ v ∷ ws) after) (sym (bus_event_is w e k)) (snoop_cell_takes t s e ws after whole r)
+    go :
+        (a : Option LocalEvent) (b : Option BusEvent) → local_event_of w ≡ a → bus_event_of w ≡ b
+        → any_cell t s a b ws ≡ Ok after → IsCellLine t (state_word s ∷ w ∷ ws) after
+    go (Some e) b h k r =
+        subst (λ (v : List ℕ). IsCellLine t (state_word s ∷ v ∷ ws) after) (sym (local_event_is w e h))
+        (local_cell_takes t s e ws after whole r)
+    go None (Some e) h k r =
+        subst (λ (v : List ℕ). IsCellLine t (state_word s ∷ v ∷ ws) after) (sym (bus_event_is w e k))
+        (snoop_cell_takes t s e ws after whole r)
     go None None h k r = absurd cc
 
-pub cell_line_takes : (t : Table) (ws : Words) (after : Table) → HasAllCells t → cell_line t ws ≡ Ok after → IsCellLine t ws after
+pub cell_line_takes :
+    (t : Table) (ws : Words) (after : Table) → HasAllCells t → cell_line t ws ≡ Ok after → IsCellLine t ws after
 unfolding cell_line
 cell_line_takes t ws after whole r =
     let a = bind_ok (word_by state_of UnknownWord ws) (λ state. event_at t state.0 state.1) after r in
-    subst (λ (v : Words). IsCellLine t v after) (sym (word_takes state_of state_word state_is UnknownWord ws a.0 a.1)) (event_takes t a.0.0 a.0.1 after whole a.2)
+    subst (λ (v : Words). IsCellLine t v after) (sym (word_takes state_of state_word state_is UnknownWord ws a.0 a.1))
+    (event_takes t a.0.0 a.0.1 after whole a.2)
 
 pub entered_whole : (t : Table) (c : CellLine) → HasAllCells t → HasAllCells (entered t c)
-entered_whole t (local s e alts) whole = record { local = length-set t.locals (local_cell s e) alts ∙ whole.local; snoop = whole.snoop }
-entered_whole t (answer s e alts) whole = record { local = whole.local; snoop = length-set t.answers (answer_cell s e) alts ∙ whole.snoop }
+entered_whole t (local s e alts) whole =
+    record { local = length-set t.locals (local_cell s e) alts ∙ whole.local; snoop = whole.snoop }
+entered_whole t (answer s e alts) whole =
+    record { local = whole.local; snoop = length-set t.answers (answer_cell s e) alts ∙ whole.snoop }
 
 -- ---- lines
 
 -- the items of cell lines and an `end` line
-pub rows_items : (cells : List CellLine) (rest : List Item) → lines_items (map cell_words cells ++ (codes "end" ∷ []) ∷ []) ++ rest ≡ lines_items (map cell_words cells) ++ (line_items (codes "end" ∷ []) ++ rest)
-rows_items cells rest = ap (λ (v : List Item). v ++ rest) (lines_push (map cell_words cells) (codes "end" ∷ [])) ∙ append_assoc (lines_items (map cell_words cells)) (line_items (codes "end" ∷ [])) rest
+pub rows_items :
+    (cells : List CellLine) (rest : List Item)
+    → lines_items (map cell_words cells ++ (codes "end" ∷ []) ∷ []) ++ rest
+    ≡ lines_items (map cell_words cells) ++ (line_items (codes "end" ∷ []) ++ rest)
+rows_items cells rest =
+    ap (λ (v : List Item). v ++ rest) (lines_push (map cell_words cells) (codes "end" ∷ []))
+    ∙ append_assoc (lines_items (map cell_words cells)) (line_items (codes "end" ∷ [])) rest
 
 on_line_ok : {X : Type 0} (n : ℕ) (r : Result X TableKind) (y : X) → on_line n r ≡ Ok y → r ≡ Ok y
 on_line_ok n (Ok x) y e = let same = ok_is x y e in ap Ok same
@@ -220,58 +291,84 @@ ends_takes (w ∷ v ∷ ws) h e = absurd cc
 unit_ok : (r : Result (Unit {0}) TableKind) (u : Unit {0}) → r ≡ Ok u → r ≡ Ok tt
 unit_ok r u e = e
 
-pub table_line_takes : (t : Table) (ws : Words) (x : Bool × Table) → HasAllCells t → table_line t ws ≡ Ok x → IsTableLine t ws x.0 x.1
+pub table_line_takes :
+    (t : Table) (ws : Words) (x : Bool × Table) → HasAllCells t → table_line t ws ≡ Ok x → IsTableLine t ws x.0 x.1
 unfolding table_line
 table_line_takes t ws x whole r = go (is_end ws) refl r
   where
-    go : (b : Bool) → is_end ws ≡ b → cond b (line_ends (drop 1 ws) >>= λ _. Ok (true, t)) (cell_line t ws >>= λ cells. Ok (false, cells)) ≡ Ok x → IsTableLine t ws x.0 x.1
+    go :
+        (b : Bool) → is_end ws ≡ b
+        → cond b (line_ends (drop 1 ws) >>= λ _. Ok (true, t)) (cell_line t ws >>= λ cells. Ok (false, cells)) ≡ Ok x
+        → IsTableLine t ws x.0 x.1
     go true h r =
         let a = bind_ok (line_ends (drop 1 ws)) (λ _. Ok (true, t)) x r in
-        subst (λ (y : Bool × Table). IsTableLine t ws y.0 y.1) (ok_is (true, t) x a.2) (ends_takes ws h (unit_ok (line_ends (drop 1 ws)) a.0 a.1), refl)
+        subst (λ (y : Bool × Table). IsTableLine t ws y.0 y.1) (ok_is (true, t) x a.2)
+        (ends_takes ws h (unit_ok (line_ends (drop 1 ws)) a.0 a.1), refl)
     go false h r =
         let a = bind_ok (cell_line t ws) (λ cells. Ok (false, cells)) x r in
-        subst (λ (y : Bool × Table). IsTableLine t ws y.0 y.1) (ok_is (false, a.0) x a.2) (cell_line_takes t ws a.0 whole a.1)
+        subst (λ (y : Bool × Table). IsTableLine t ws y.0 y.1) (ok_is (false, a.0) x a.2)
+        (cell_line_takes t ws a.0 whole a.1)
 
 pub record TableLines (t : Table) (xs : List Item) (after : Table) (left : Unread) : Type 0 where
   pub cells : List CellLine
   pub stand : AllStand t cells
-  pub parts : xs ≡ lines_items (map cell_words cells) ++ (line_items (codes "end" ∷ []) ++ items (lines_places left.lines left.end))
+  pub parts :
+      xs
+      ≡ lines_items (map cell_words cells)
+      ++ (line_items (codes "end" ∷ []) ++ items (lines_places left.lines left.end))
   pub enters : after ≡ all_entered t cells
   pub ends : left.words ≡ []
 
 abbrev left_at : ℕ → List Line → ℕ → Unread
 left_at n ls end = record { line = n; words = []; lines = ls; end = end }
 
-one_more_line : (t : Table) (n : ℕ) (ws : Words) (rest : List Place) (mid after : Table) (left : Unread) → IsCellLine t ws mid → TableLines mid (items rest) after left → TableLines t (items (line_places n ws rest)) after left
+one_more_line :
+    (t : Table) (n : ℕ) (ws : Words) (rest : List Place) (mid after : Table) (left : Unread) → IsCellLine t ws mid
+    → TableLines mid (items rest) after left → TableLines t (items (line_places n ws rest)) after left
 one_more_line t n ws rest mid after left c others = record {
   cells = c.line ∷ others.cells;
   stand = (c.can, subst (λ (v : Table). AllStand v others.cells) c.enters others.stand);
-  parts = items_line n ws rest ∙ (ap (λ (v : Words). line_items v ++ items rest) c.words ∙ (ap (λ (xs : List Item). line_items (cell_words c.line) ++ xs) others.parts
-      ∙ sym (append_assoc (line_items (cell_words c.line)) (lines_items (map cell_words others.cells)) (line_items (codes "end" ∷ []) ++ items (lines_places left.lines left.end)))));
+  parts =
+      items_line n ws rest
+      ∙ (ap (λ (v : Words). line_items v ++ items rest) c.words
+      ∙ (ap (λ (xs : List Item). line_items (cell_words c.line) ++ xs) others.parts
+      ∙ sym (append_assoc (line_items (cell_words c.line)) (lines_items (map cell_words others.cells))
+      (line_items (codes "end" ∷ []) ++ items (lines_places left.lines left.end)))));
   enters = others.enters ∙ ap (λ (v : Table). all_entered v others.cells) c.enters;
   ends = others.ends;
 }
 
-pub table_lines_take : (t : Table) (ls : List Line) (end : ℕ) (x : Table × Unread) → HasAllCells t → table_lines t ls end ≡ Ok x → TableLines t (items (lines_places ls end)) x.0 x.1
+pub table_lines_take :
+    (t : Table) (ls : List Line) (end : ℕ) (x : Table × Unread) → HasAllCells t → table_lines t ls end ≡ Ok x
+    → TableLines t (items (lines_places ls end)) x.0 x.1
 unfolding table_lines
 table_lines_take t [] end x whole r = absurd cc
 table_lines_take t (l ∷ ls) end x whole r =
-    let a = bind_ok (on_line l.number (table_line t l.words)) (λ y. cond y.0 (Ok (y.1, left_at l.number ls end)) (table_lines y.1 ls end)) x r in
-    go a.0.0 a.0.1 (table_line_takes t l.words a.0 whole (on_line_ok l.number (table_line t l.words) a.0 a.1)) a.2 (λ mid w h. table_lines_take mid ls end x w h)
+    let a = bind_ok (on_line l.number (table_line t l.words))
+    (λ y. cond y.0 (Ok (y.1, left_at l.number ls end)) (table_lines y.1 ls end)) x r in
+    go a.0.0 a.0.1 (table_line_takes t l.words a.0 whole (on_line_ok l.number (table_line t l.words) a.0 a.1)) a.2
+    (λ mid w h. table_lines_take mid ls end x w h)
   where
-    go : (b : Bool) (mid : Table) → IsTableLine t l.words b mid → cond b (Ok (mid, left_at l.number ls end)) (table_lines mid ls end) ≡ Ok x → ((mid : Table) → HasAllCells mid → table_lines mid ls end ≡ Ok x → TableLines mid (items (lines_places ls end)) x.0 x.1)
+    go :
+        (b : Bool) (mid : Table) → IsTableLine t l.words b mid
+        → cond b (Ok (mid, left_at l.number ls end)) (table_lines mid ls end) ≡ Ok x
+        → ((mid : Table) → HasAllCells mid → table_lines mid ls end ≡ Ok x
+        → TableLines mid (items (lines_places ls end)) x.0 x.1)
         → TableLines t (items (lines_places (l ∷ ls) end)) x.0 x.1
     go true mid k e ih =
         let same = ok_is (mid, left_at l.number ls end) x e in
         subst (λ (y : Table × Unread). TableLines t (items (lines_places (l ∷ ls) end)) y.0 y.1) same (record {
           cells = [];
           stand = tt;
-          parts = items_line l.number l.words (lines_places ls end) ∙ ap (λ (v : Words). line_items v ++ items (lines_places ls end)) k.0;
+          parts =
+              items_line l.number l.words (lines_places ls end)
+              ∙ ap (λ (v : Words). line_items v ++ items (lines_places ls end)) k.0;
           enters = k.1;
           ends = refl;
         })
     go false mid k e ih =
-        one_more_line t l.number l.words (lines_places ls end) mid x.0 x.1 k (ih mid (subst HasAllCells (sym k.enters) (entered_whole t k.line whole)) e)
+        one_more_line t l.number l.words (lines_places ls end) mid x.0 x.1 k
+        (ih mid (subst HasAllCells (sym k.enters) (entered_whole t k.line whole)) e)
 
 no_words : (ws : Words) (y : Unit {0}) → line_ends ws ≡ Ok y → ws ≡ []
 no_words [] y e = refl
@@ -290,7 +387,10 @@ table_takes name u x e =
     record {
       cells = found.cells;
       stand = found.stand;
-      parts = items_line u.line u.words (lines_places u.lines u.end) ∙ (ap (λ (v : Words). line_items v ++ items (lines_places u.lines u.end)) none ∙ (ap (λ (xs : List Item). line_end ∷ xs) found.parts
+      parts =
+          items_line u.line u.words (lines_places u.lines u.end)
+          ∙ (ap (λ (v : Words). line_items v ++ items (lines_places u.lines u.end)) none
+          ∙ (ap (λ (xs : List Item). line_end ∷ xs) found.parts
           ∙ ap (λ (xs : List Item). line_end ∷ xs) (sym (rows_items found.cells rest))));
       value = found.enters;
       ends = found.ends;

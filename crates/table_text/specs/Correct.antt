@@ -7,7 +7,8 @@ use Rattle.table_text.specs.declared.fault.TableFault.{TableFault}
 use Rattle.table_text.specs.declared.fault.TableFault.TheVariants as faults
 use Rattle.table_text.specs.Spelling.{CellLine, local, answer, table_items, table_of, entered, table_grammar}
 
--- a cell line that can stand after others: its cell was not given, and it has one to sixteen alternatives
+-- a cell line that can stand after others: its cell was not given, and it has one to sixteen
+-- alternatives
 abbrev pub CanStand : Table → CellLine → Type 0
 CanStand t (local s e alts) = (locals_of t s e ≡ []) × (0 < length alts) × (length alts ≤ 16)
 CanStand t (answer s e alts) = (answers_of t s e ≡ []) × (0 < length alts) × (length alts ≤ 16)
@@ -16,7 +17,8 @@ abbrev pub AllStand : Table → List CellLine → Type 0
 AllStand t [] = Unit {0}
 AllStand t (c ∷ cs) = CanStand t c × AllStand (entered t c) cs
 
--- what was unread is the text of the table, of cell lines that can stand, up to where the scan stands after it
+-- what was unread is the text of the table, of cell lines that can stand, up to where the scan
+-- stands after it
 pub record IsTable (name : List ℕ) (u : Unread) (after : Table) (left : Unread) : Type 0 where
   pub cells : List CellLine
   pub stand : AllStand (empty_table name) cells

@@ -45,7 +45,8 @@ abbrev pub spelled_by : {X : Type 0} → Option X → Words → Result (X × Wor
 spelled_by None ws = Err UnknownWord
 spelled_by (Some x) ws = Ok (x, ws)
 
-abbrev pub word_by : {X : Type 0} → (List ℕ → Option X) → TableKind → Words → Result (X × Words) TableKind
+abbrev pub word_by :
+    {X : Type 0} → (List ℕ → Option X) → TableKind → Words → Result (X × Words) TableKind
 word_by f missing [] = Err missing
 word_by f missing (w ∷ ws) = spelled_by (f w) ws
 
@@ -71,13 +72,18 @@ GivesBar result here word = Gives (λ more. more) result here (bar word)
 abbrev pub local_action : Outcome → Option BusEvent → LocalAction
 local_action result bus = record { result = result; bus = bus }
 
-abbrev pub bus_event_at : Outcome → Option BusEvent → Words → Result (LocalAction × Bool × Words) TableKind
+abbrev pub bus_event_at :
+    Outcome → Option BusEvent → Words → Result (LocalAction × Bool × Words) TableKind
 bus_event_at result None ws = Err UnknownWord
-bus_event_at result (Some event) ws = bar_or_end ws >>= λ after. Ok (local_action result (Some event), after.0, after.1)
+bus_event_at result (Some event) ws =
+    bar_or_end ws >>= λ after. Ok (local_action result (Some event), after.0, after.1)
 
 abbrev pub local_rest : Outcome → Words → Result (LocalAction × Bool × Words) TableKind
 local_rest result [] = Ok (local_action result None, false, [])
-local_rest result (w ∷ ws) = if bytes_eq w (codes "|") then Ok (local_action result None, true, ws) else bus_event_at result (bus_event_of w) ws
+local_rest result (w ∷ ws) =
+    if bytes_eq w (codes "|")
+    then Ok (local_action result None, true, ws)
+    else bus_event_at result (bus_event_of w) ws
 
 unfoldable pub local_at : TableKind → Words → Result (LocalAction × Bool × Words) TableKind
 local_at missing ws = word_by outcome_of missing ws >>= λ result. local_rest result.0 result.1
@@ -105,7 +111,8 @@ snoop_rest state ws =
     let ch = signal_at (codes "CH") ws in
     let di = signal_at (codes "DI") ch.1 in
     let sl = signal_at (codes "SL") di.1 in
-    bar_or_end sl.1 >>= λ after. Ok (record { result = state; response = response ch.0 di.0 sl.0 }, after.0, after.1)
+    bar_or_end sl.1 >>= λ after.
+    Ok (record { result = state; response = response ch.0 di.0 sl.0 }, after.0, after.1)
 
 unfoldable pub snoop_at : TableKind → Words → Result (SnoopAction × Bool × Words) TableKind
 snoop_at missing ws = word_by state_of missing ws >>= λ state. snoop_rest state.0 state.1
@@ -124,32 +131,44 @@ abbrev pub FailsAs : {Y : Type 0} → Result Y TableKind → ℕ → TableFault 
 FailsAs read here fault = Fails fault here read
 
 -- the alternatives of a cell, of which so many have room: each is read and added to the table
-unfoldable pub alternatives : {A X : Type 0} → (List ℕ → Option X) → (TableKind → Words → Result (A × Bool × Words) TableKind) → (Table → A → Table) → ℕ → TableKind → Table → Words → Result Table TableKind
+unfoldable pub alternatives :
+    {A X : Type 0} → (List ℕ → Option X) → (TableKind → Words → Result (A × Bool × Words) TableKind)
+    → (Table → A → Table) → ℕ → TableKind → Table → Words → Result Table TableKind
 alternatives first read add zero missing t ws = no_room first missing ws
 alternatives first read add (suc room) missing t ws =
-    read missing ws >>= λ a. if a.1 then alternatives first read add room UnknownWord (add t a.0) a.2 else Ok (add t a.0)
+    read missing ws >>= λ a.
+    if a.1
+    then alternatives first read add room UnknownWord (add t a.0) a.2
+    else Ok (add t a.0)
 
 -- all alternatives of a cell, where a line that ends before the first is NoCell
 abbrev pub local_alternatives : State → LocalEvent → Table → Words → Result Table TableKind
-local_alternatives s e t ws = alternatives outcome_of local_at (λ t a. with_local t s e a) 16 NoCell t ws
+local_alternatives s e t ws =
+    alternatives outcome_of local_at (λ t a. with_local t s e a) 16 NoCell t ws
 
 abbrev pub snoop_alternatives : State → BusEvent → Table → Words → Result Table TableKind
-snoop_alternatives s e t ws = alternatives state_of snoop_at (λ t a. with_answer t s e a) 16 NoCell t ws
+snoop_alternatives s e t ws =
+    alternatives state_of snoop_at (λ t a. with_answer t s e a) 16 NoCell t ws
 
 -- the words after the event, where the cell was not given before: `=` and the alternatives
 unfoldable pub local_cell_at : Table → State → LocalEvent → Words → Result Table TableKind
 local_cell_at t s e ws =
-    if is_empty (locals_of t s e) then (this_word (codes "=") ws >>= λ after. local_alternatives s e t after) else Err TwiceCell
+    if is_empty (locals_of t s e)
+    then (this_word (codes "=") ws >>= λ after. local_alternatives s e t after)
+    else Err TwiceCell
 
 unfoldable pub snoop_cell_at : Table → State → BusEvent → Words → Result Table TableKind
 snoop_cell_at t s e ws =
-    if is_empty (answers_of t s e) then (this_word (codes "=") ws >>= λ after. snoop_alternatives s e t after) else Err TwiceCell
+    if is_empty (answers_of t s e)
+    then (this_word (codes "=") ws >>= λ after. snoop_alternatives s e t after)
+    else Err TwiceCell
 
 abbrev pub bus_cell : Table → State → Option BusEvent → Words → Result Table TableKind
 bus_cell t s None ws = Err UnknownWord
 bus_cell t s (Some e) ws = snoop_cell_at t s e ws
 
-abbrev pub any_cell : Table → State → Option LocalEvent → Option BusEvent → Words → Result Table TableKind
+abbrev pub any_cell :
+    Table → State → Option LocalEvent → Option BusEvent → Words → Result Table TableKind
 any_cell t s None bus ws = bus_cell t s bus ws
 any_cell t s (Some e) bus ws = local_cell_at t s e ws
 
@@ -182,19 +201,25 @@ line_ends (w ∷ ws) = Err UnknownWord
 -- one line of a table: whether it is the `end` line, and the cells after it
 unfoldable pub table_line : Table → Words → Result (Bool × Table) TableKind
 table_line t ws =
-    if is_end ws then (line_ends (drop 1 ws) >>= λ _. Ok (true, t)) else (cell_line t ws >>= λ cells. Ok (false, cells))
+    if is_end ws
+    then (line_ends (drop 1 ws) >>= λ _. Ok (true, t))
+    else (cell_line t ws >>= λ cells. Ok (false, cells))
 
 -- the lines of a table up to its `end` line, and where that line ends
 unfoldable pub table_lines : Table → List Line → ℕ → Result (Table × Unread) Fault
 table_lines t [] end = Err (record { line = end; kind = NoEnd })
 table_lines t (l ∷ ls) end = on_line l.number (table_line t l.words) >>= λ x.
-    if x.0 then Ok (x.1, record { line = l.number; words = []; lines = ls; end = end }) else table_lines x.1 ls end
+    if x.0
+    then Ok (x.1, record { line = l.number; words = []; lines = ls; end = end })
+    else table_lines x.1 ls end
 
 -- a table from just after its name on
 unfoldable pub table_at : List ℕ → Unread → Result (Table × Unread) Fault
-table_at name u = on_line u.line (line_ends u.words) >>= λ _. table_lines (empty_table name) u.lines u.end
+table_at name u =
+    on_line u.line (line_ends u.words) >>= λ _. table_lines (empty_table name) u.lines u.end
 
--- What read_table returned, with what the scan has yet to give, is what reading gives, unless memory ran out.
+-- What read_table returned, with what the scan has yet to give, is what reading gives, unless
+-- memory ran out.
 abbrev pub FailsTable : TableFault → Result (Table × Unread) Fault → Type 0
 FailsTable (faults.Bad line kind) read = read ≡ Err (record { line = line; kind = kind })
 FailsTable faults.NoMemory read = Unit {0}

@@ -31,7 +31,10 @@ signal_words true name = name ∷ []
 signal_words _ name = []
 
 abbrev pub snoop_words : SnoopAction → List (List ℕ)
-snoop_words a = state_word a.result ∷ (signal_words a.response.ch (codes "CH") ++ signal_words a.response.di (codes "DI") ++ signal_words a.response.sl (codes "SL"))
+snoop_words a =
+    state_word a.result
+    ∷ (signal_words a.response.ch (codes "CH") ++ signal_words a.response.di (codes "DI")
+    ++ signal_words a.response.sl (codes "SL"))
 
 -- alternatives, with a bar between two of them
 abbrev pub alternative_words : {A : Type 0} → (A → List (List ℕ)) → List A → List (List ℕ)
@@ -45,8 +48,10 @@ pub data CellLine : Type 0 where
   answer : State → BusEvent → List SnoopAction → CellLine
 
 abbrev pub cell_words : CellLine → List (List ℕ)
-cell_words (local s e alts) = state_word s ∷ local_event_word e ∷ codes "=" ∷ alternative_words local_words alts
-cell_words (answer s e alts) = state_word s ∷ bus_event_word e ∷ codes "=" ∷ alternative_words snoop_words alts
+cell_words (local s e alts) =
+    state_word s ∷ local_event_word e ∷ codes "=" ∷ alternative_words local_words alts
+cell_words (answer s e alts) =
+    state_word s ∷ bus_event_word e ∷ codes "=" ∷ alternative_words snoop_words alts
 
 abbrev pub HasAlternative : CellLine → Type 0
 HasAlternative (local s e alts) = 0 < length alts
@@ -91,7 +96,9 @@ bars (w ∷ ws) = (if bytes_eq w bar then 1 else 0) + bars ws
 
 -- a cell given twice, and a word after sixteen bars of its line
 abbrev pub BreaksCell : List Words → Words → List ℕ → TableKind → Type 0
-BreaksCell earlier words here kind = (IsTwice earlier words here × (kind ≡ TwiceCell)) ⊎ ((bars words ≡ 16) × (kind ≡ Alternatives 17))
+BreaksCell earlier words here kind =
+    (IsTwice earlier words here × (kind ≡ TwiceCell))
+    ⊎ ((bars words ≡ 16) × (kind ≡ Alternatives 17))
 
 -- ---- the kinds of the other faults
 
@@ -101,8 +108,15 @@ EndsWithEquals before = (front : List Item) × (before ≡ front ++ word (codes 
 
 abbrev pub UnfitTable : List Item → Item → TableKind → Type 0
 UnfitTable before text_end kind = kind ≡ NoEnd
-UnfitTable before line_end kind = (EndsWithEquals before × (kind ≡ NoCell)) ⊎ (¬ (EndsWithEquals before) × (kind ≡ UnknownWord))
+UnfitTable before line_end kind =
+    (EndsWithEquals before × (kind ≡ NoCell)) ⊎ (¬ (EndsWithEquals before) × (kind ≡ UnknownWord))
 UnfitTable before (word w) kind = kind ≡ UnknownWord
 
 abbrev pub table_grammar : Grammar (List CellLine) TableKind
-table_grammar = record { spelled = table_items; Fits = AllByRecursion HasAlternative; Breaks = BreaksAtWord BreaksCell; Unfit = UnfitTable }
+table_grammar =
+    record {
+      spelled = table_items;
+      Fits = AllByRecursion HasAlternative;
+      Breaks = BreaksAtWord BreaksCell;
+      Unfit = UnfitTable;
+    }

@@ -62,9 +62,16 @@ table_room = 16700
 abbrev pub after_head : List ℕ → Unread
 after_head bytes = after_word (after_word (at_next_line (unread bytes)))
 
--- what a scan has yet to give after the head line of a written table, which is the line with this number, where other bytes follow the table
+-- what a scan has yet to give after the head line of a written table, which is the line with this
+-- number, where other bytes follow the table
 abbrev pub behind_head : ℕ → ℕ → Table → List ℕ → Unread
-behind_head line end t rest = record { line = line; words = []; lines = numbered (line + 1) (lines (lines_bytes (body_rows t) ++ rest)); end = end }
+behind_head line end t rest =
+    record {
+      line = line;
+      words = [];
+      lines = numbered (line + 1) (lines (lines_bytes (body_rows t) ++ rest));
+      end = end;
+    }
 
 -- what it has yet to give after the table: the bytes that follow it
 abbrev pub behind_table : ℕ → ℕ → Table → List ℕ → Unread

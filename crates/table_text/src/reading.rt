@@ -36,7 +36,8 @@ fn unknown(scan: &Scan) -> TableFault
 
 /// Reads a result. Where the line ends, the fault is `missing`.
 fn outcome(scan: &mut Scan, missing: TableKind) -> Result<Outcome, TableFault>
-    ensures value { Gives (λ x. (x, scan.new.words)) result scan.old.line (word_by outcome_of missing scan.old.words) }
+    ensures value { Gives (λ x. (x, scan.new.words)) result scan.old.line
+        (word_by outcome_of missing scan.old.words) }
     ensures stays { StaysOnLine scan.old scan.new }
 {
     match scan.next_word() {
@@ -47,7 +48,8 @@ fn outcome(scan: &mut Scan, missing: TableKind) -> Result<Outcome, TableFault>
 
 /// Reads a state. Where the line ends, the fault is `missing`.
 fn state(scan: &mut Scan, missing: TableKind) -> Result<State, TableFault>
-    ensures value { Gives (λ x. (x, scan.new.words)) result scan.old.line (word_by state_of missing scan.old.words) }
+    ensures value { Gives (λ x. (x, scan.new.words)) result scan.old.line
+        (word_by state_of missing scan.old.words) }
     ensures stays { StaysOnLine scan.old scan.new }
 {
     match scan.next_word() {
@@ -70,7 +72,8 @@ fn bar(scan: &Scan, word: Option<&[u8]>) -> Result<bool, TableFault>
 /// Reads a local alternative, and whether another follows.
 #[tactic(auto, unfolding(crate::specs::Reading::local_at))]
 fn local_action(scan: &mut Scan, missing: TableKind) -> Result<(LocalAction, bool), TableFault>
-    ensures value { Gives (λ x. (x.0, x.1, scan.new.words)) result scan.old.line (local_at missing scan.old.words) }
+    ensures value { Gives (λ x. (x.0, x.1, scan.new.words)) result scan.old.line
+        (local_at missing scan.old.words) }
     ensures stays { StaysOnLine scan.old scan.new }
 {
     let result = outcome(scan, missing)?;
@@ -97,7 +100,8 @@ fn local_action(scan: &mut Scan, missing: TableKind) -> Result<(LocalAction, boo
 /// Whether the word taken is this signal, and the word to look at next.
 fn signal<'a>(scan: &mut Scan<'a>, word: Option<&'a [u8]>, name: &str) -> (bool, Option<&'a [u8]>)
     requires { IsLast (option_copied word) scan.old.words }
-    ensures value { (result.0, onto (option_copied result.1) scan.new.words) ≡ signal_at name.now (onto (option_copied word.entry) scan.old.words) }
+    ensures value { (result.0, onto (option_copied result.1) scan.new.words)
+        ≡ signal_at name.now (onto (option_copied word.entry) scan.old.words) }
     ensures last { IsLast (option_copied result.1) scan.new.words }
     ensures stays { StaysOnLine scan.old scan.new }
 {
@@ -110,7 +114,8 @@ fn signal<'a>(scan: &mut Scan<'a>, word: Option<&'a [u8]>, name: &str) -> (bool,
 /// Reads an answer, and whether another follows.
 #[tactic(auto, unfolding(crate::specs::Reading::snoop_at))]
 fn snoop_action(scan: &mut Scan, missing: TableKind) -> Result<(SnoopAction, bool), TableFault>
-    ensures value { Gives (λ x. (x.0, x.1, scan.new.words)) result scan.old.line (snoop_at missing scan.old.words) }
+    ensures value { Gives (λ x. (x.0, x.1, scan.new.words)) result scan.old.line
+        (snoop_at missing scan.old.words) }
     ensures stays { StaysOnLine scan.old scan.new }
 {
     let result = state(scan, missing)?;
@@ -163,7 +168,8 @@ fn local_alternatives(
     event: LocalEvent,
 ) -> Result<(), TableFault>
     requires { locals_of table.old state event ≡ [] }
-    ensures value { Gives (λ _. table.new) result scan.old.line (local_alternatives state event table.old scan.old.words) }
+    ensures value { Gives (λ _. table.new) result scan.old.line
+        (local_alternatives state event table.old scan.old.words) }
     ensures stays { StaysOnLine scan.old scan.new }
 {
     let mut missing = TableKind::NoCell;
@@ -189,7 +195,8 @@ fn snoop_alternatives(
     event: BusEvent,
 ) -> Result<(), TableFault>
     requires { answers_of table.old state event ≡ [] }
-    ensures value { Gives (λ _. table.new) result scan.old.line (snoop_alternatives state event table.old scan.old.words) }
+    ensures value { Gives (λ _. table.new) result scan.old.line
+        (snoop_alternatives state event table.old scan.old.words) }
     ensures stays { StaysOnLine scan.old scan.new }
 {
     let mut missing = TableKind::NoCell;
@@ -209,7 +216,8 @@ fn snoop_alternatives(
 
 /// Reads the `=` after an event.
 fn equals(scan: &mut Scan) -> Result<(), TableFault>
-    ensures value { Gives (λ _. scan.new.words) result scan.old.line (this_word (codes "=") scan.old.words) }
+    ensures value { Gives (λ _. scan.new.words) result scan.old.line
+        (this_word (codes "=") scan.old.words) }
     ensures stays { StaysOnLine scan.old scan.new }
 {
     match scan.next_word() {
@@ -226,7 +234,8 @@ fn local_cell(
     state: State,
     event: LocalEvent,
 ) -> Result<(), TableFault>
-    ensures value { Gives (λ _. table.new) result scan.old.line (local_cell_at table.old state event scan.old.words) }
+    ensures value { Gives (λ _. table.new) result scan.old.line
+        (local_cell_at table.old state event scan.old.words) }
     ensures stays { StaysOnLine scan.old scan.new }
 {
     if !table.local(state, event).is_empty() {
@@ -244,7 +253,8 @@ fn snoop_cell(
     state: State,
     event: BusEvent,
 ) -> Result<(), TableFault>
-    ensures value { Gives (λ _. table.new) result scan.old.line (snoop_cell_at table.old state event scan.old.words) }
+    ensures value { Gives (λ _. table.new) result scan.old.line
+        (snoop_cell_at table.old state event scan.old.words) }
     ensures stays { StaysOnLine scan.old scan.new }
 {
     if !table.snoop(state, event).is_empty() {
@@ -257,7 +267,8 @@ fn snoop_cell(
 /// Reads a line that gives a cell its alternatives. Its first word was taken already.
 #[tactic(auto, unfolding(crate::specs::Reading::cell_line))]
 fn cell(scan: &mut Scan, table: &mut Table, first: &[u8]) -> Result<(), TableFault>
-    ensures value { Gives (λ _. table.new) result scan.old.line (cell_line table.old (first.now ∷ scan.old.words)) }
+    ensures value { Gives (λ _. table.new) result scan.old.line
+        (cell_line table.old (first.now ∷ scan.old.words)) }
     ensures stays { StaysOnLine scan.old scan.new }
 {
     let Some(state) = state_of(first) else {
@@ -290,7 +301,8 @@ fn line_end(scan: &mut Scan) -> Result<(), TableFault>
 /// Reads one line of a table. Answers whether it was the `end` line.
 #[tactic(auto, unfolding(crate::specs::Reading::table_line, crate::specs::Reading::cell_line))]
 fn line(scan: &mut Scan, table: &mut Table) -> Result<bool, TableFault>
-    ensures value { Gives (λ ended. (ended, table.new)) result scan.old.line (table_line table.old scan.old.words) }
+    ensures value { Gives (λ ended. (ended, table.new)) result scan.old.line
+        (table_line table.old scan.old.words) }
     ensures words { IfOk result (λ ended. ended ≡ true → scan.new.words ≡ []) }
     ensures stays { StaysOnLine scan.old scan.new }
 {
@@ -314,7 +326,8 @@ pub fn read_table(alloc: Global, scan: &mut Scan, name: Name) -> Result<Table, T
     ensures only { (cells : List CellLine) (rest : List Item) → AllStand (empty_table name) cells
         → items (places scan.old) ≡ table_items cells ++ rest → IsReadAs result (table_of name cells) }
     // A table that was written is read back, whatever follows it.
-    ensures written { (t : Table) (rest : List ℕ) → IsWhole t → name ≡ t.name → scan.old ≡ after_head (written_table t ++ rest) → IsReadAs result t }
+    ensures written { (t : Table) (rest : List ℕ) → IsWhole t → name ≡ t.name
+        → scan.old ≡ after_head (written_table t ++ rest) → IsReadAs result t }
     // The same holds after other lines, and what follows the table is then still to be read.
     ensures goes_on { (t : Table) (line end : ℕ) (rest : List ℕ) → IsWhole t → name ≡ t.name → scan.old ≡ behind_head line end t rest
         → IsReadAs result t × OnOk result (scan.new ≡ behind_table line end t rest) }

@@ -6,7 +6,8 @@ use moesi_state::State;
 use std::alloc::Global;
 use std::test::*;
 
-/// The fault of a text whose first two words are `table` and a name. There is none where a table is read.
+/// The fault of a text whose first two words are `table` and a name. There is none where a table is
+/// read.
 fn fault_of(alloc: Global, text: &str) -> Option<TableFault> {
     if text.len() >= 1000 {
         return None;

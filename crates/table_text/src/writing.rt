@@ -89,7 +89,9 @@ pub fn write_answer(action: SnoopAction, text: &mut Text)
 fn local_alternatives(text: &mut Text, alternatives: &[LocalAction])
     requires some { 0 < length alternatives.now }
     requires room { 13 * length alternatives.now ≤ text.old.spare }
-    ensures bytes { text.new.bytes ≡ text.old.bytes ++ after_words (codes "=" ∷ alternative_words local_words alternatives.now) }
+    ensures bytes { text.new.bytes
+        ≡ text.old.bytes
+        ++ after_words (codes "=" ∷ alternative_words local_words alternatives.now) }
     ensures spare { text.old.spare ≤ text.new.spare + 13 * length alternatives.now }
 {
     let mut lead = b'=';
@@ -104,7 +106,9 @@ fn local_alternatives(text: &mut Text, alternatives: &[LocalAction])
 fn snoop_alternatives(text: &mut Text, alternatives: &[SnoopAction])
     requires some { 0 < length alternatives.now }
     requires room { 13 * length alternatives.now ≤ text.old.spare }
-    ensures bytes { text.new.bytes ≡ text.old.bytes ++ after_words (codes "=" ∷ alternative_words snoop_words alternatives.now) }
+    ensures bytes { text.new.bytes
+        ≡ text.old.bytes
+        ++ after_words (codes "=" ∷ alternative_words snoop_words alternatives.now) }
     ensures spare { text.old.spare ≤ text.new.spare + 13 * length alternatives.now }
 {
     let mut lead = b'=';
@@ -118,7 +122,8 @@ fn snoop_alternatives(text: &mut Text, alternatives: &[SnoopAction])
 /// Appends the line of a local cell, where it has alternatives.
 fn local_line(text: &mut Text, table: &Table, state: State, event: LocalEvent)
     requires { 256 ≤ text.old.spare }
-    ensures bytes { text.new.bytes ≡ text.old.bytes ++ cells_bytes (local_line table.now state event) }
+    ensures bytes { text.new.bytes
+        ≡ text.old.bytes ++ cells_bytes (local_line table.now state event) }
     ensures spare { text.old.spare ≤ text.new.spare + 256 }
 {
     let alternatives = table.local(state, event);
@@ -134,7 +139,8 @@ fn local_line(text: &mut Text, table: &Table, state: State, event: LocalEvent)
 /// Appends the line of an answer cell, where it has alternatives.
 fn snoop_line(text: &mut Text, table: &Table, state: State, event: BusEvent)
     requires { 256 ≤ text.old.spare }
-    ensures bytes { text.new.bytes ≡ text.old.bytes ++ cells_bytes (snoop_line table.now state event) }
+    ensures bytes { text.new.bytes
+        ≡ text.old.bytes ++ cells_bytes (snoop_line table.now state event) }
     ensures spare { text.old.spare ≤ text.new.spare + 256 }
 {
     let alternatives = table.snoop(state, event);
@@ -150,7 +156,8 @@ fn snoop_line(text: &mut Text, table: &Table, state: State, event: BusEvent)
 /// Appends the lines of the cells of a state and these local events.
 fn local_lines(text: &mut Text, table: &Table, state: State, events: &[LocalEvent])
     requires { 256 * length events.now ≤ text.old.spare }
-    ensures bytes { text.new.bytes ≡ text.old.bytes ++ cells_bytes (flat_map (local_line table.now state) events.now) }
+    ensures bytes { text.new.bytes
+        ≡ text.old.bytes ++ cells_bytes (flat_map (local_line table.now state) events.now) }
     ensures spare { text.old.spare ≤ text.new.spare + 256 * length events.now }
 {
     for event in events {
@@ -161,7 +168,8 @@ fn local_lines(text: &mut Text, table: &Table, state: State, events: &[LocalEven
 /// Appends the lines of the cells of a state and these bus events.
 fn snoop_lines(text: &mut Text, table: &Table, state: State, events: &[BusEvent])
     requires { 256 * length events.now ≤ text.old.spare }
-    ensures bytes { text.new.bytes ≡ text.old.bytes ++ cells_bytes (flat_map (snoop_line table.now state) events.now) }
+    ensures bytes { text.new.bytes
+        ≡ text.old.bytes ++ cells_bytes (flat_map (snoop_line table.now state) events.now) }
     ensures spare { text.old.spare ≤ text.new.spare + 256 * length events.now }
 {
     for event in events {
@@ -182,7 +190,8 @@ fn state_lines(text: &mut Text, table: &Table, state: State)
 /// Appends the lines of these states.
 fn lines_of_states(text: &mut Text, table: &Table, states: &[State])
     requires { state_room * length states.now ≤ text.old.spare }
-    ensures bytes { text.new.bytes ≡ text.old.bytes ++ cells_bytes (flat_map (state_lines table.now) states.now) }
+    ensures bytes { text.new.bytes
+        ≡ text.old.bytes ++ cells_bytes (flat_map (state_lines table.now) states.now) }
     ensures spare { text.old.spare ≤ text.new.spare + state_room * length states.now }
 {
     for state in states {
@@ -231,7 +240,8 @@ pub fn write_table(table: &Table, text: &mut Text) -> Result<(), NoMemory>
 fn head(text: &mut Text, table: &Table)
     requires { 39 ≤ text.old.spare }
     ensures whole { IsWhole table.now }
-    ensures bytes { text.new.bytes ≡ text.old.bytes ++ line_bytes (codes "table" ∷ table.now.name ∷ []) }
+    ensures bytes { text.new.bytes
+        ≡ text.old.bytes ++ line_bytes (codes "table" ∷ table.now.name ∷ []) }
     ensures spare { text.old.spare ≤ text.new.spare + 39 }
 {
     let name = table.name();

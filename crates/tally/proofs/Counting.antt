@@ -18,7 +18,9 @@ abbrev pub one_more_if : Bool → ℕ → ℕ
 one_more_if true n = suc n
 one_more_if false n = n
 
-count_push : {X : Type 0} (test : X → Bool) (xs : List X) (x : X) → count_where test (xs ++ x ∷ []) ≡ one_more_if (test x) (count_where test xs)
+count_push :
+    {X : Type 0} (test : X → Bool) (xs : List X) (x : X)
+    → count_where test (xs ++ x ∷ []) ≡ one_more_if (test x) (count_where test xs)
 count_push test [] x = go (test x)
   where
     go : (b : Bool) → cond b 1 0 + 0 ≡ one_more_if b 0
@@ -26,7 +28,10 @@ count_push test [] x = go (test x)
     go false = refl
 count_push test (y ∷ xs) x = ap (λ n. cond (test y) 1 0 + n) (count_push test xs x) ∙ go (test x)
   where
-    go : (b : Bool) → cond (test y) 1 0 + one_more_if b (count_where test xs) ≡ one_more_if b (cond (test y) 1 0 + count_where test xs)
+    go :
+        (b : Bool)
+        → cond (test y) 1 0 + one_more_if b (count_where test xs)
+        ≡ one_more_if b (cond (test y) 1 0 + count_where test xs)
     go true = omega arith
     go false = refl
 
@@ -39,7 +44,9 @@ count_at_most test (x ∷ xs) = go (test x) (count_at_most test xs)
     go false least = omega (arith, least)
 
 -- The count of a bus event is found at its number.
-count_at : (journal : List Event) (event : BusEvent) → slice_index (connect_counts journal) (event_number event) ≡ connect_count journal event
+count_at :
+    (journal : List Event) (event : BusEvent)
+    → slice_index (connect_counts journal) (event_number event) ≡ connect_count journal event
 count_at journal Rd = refl
 count_at journal Rfo = refl
 count_at journal Inv = refl
@@ -50,18 +57,31 @@ count_at journal Ubw = refl
 count_at journal Pas = refl
 count_at journal Flu = refl
 
-pub counts_low : (journal : List Event) (event : BusEvent) → slice_index (connect_counts journal) (event_number event) ≤ length journal
-counts_low journal event = let at = count_at journal event in let most = count_at_most (connects event) journal in omega (arith, at, most)
+pub counts_low :
+    (journal : List Event) (event : BusEvent)
+    → slice_index (connect_counts journal) (event_number event) ≤ length journal
+counts_low journal event =
+    let at = count_at journal event in let most = count_at_most (connects event) journal in omega (arith, at, most)
 
 -- The counts of more events, each by what one event adds.
-counts_push : (journal : List Event) (event : Event) → connect_counts (journal ++ event ∷ []) ≡ map (λ e. one_more_if (connects e event) (connect_count journal e)) bus_events
+counts_push :
+    (journal : List Event) (event : Event)
+    → connect_counts (journal ++ event ∷ [])
+    ≡ map (λ e. one_more_if (connects e event) (connect_count journal e)) bus_events
 counts_push journal event = λ i.
-    more Rd i ∷ more Rfo i ∷ more Inv i ∷ more Urd i ∷ more Bwr i ∷ more Uwr i ∷ more Ubw i ∷ more Pas i ∷ more Flu i ∷ []
+    more Rd i ∷ more Rfo i ∷ more Inv i ∷ more Urd i ∷ more Bwr i ∷ more Uwr i ∷ more Ubw i ∷ more Pas i ∷ more Flu i
+    ∷ []
   where
-    more : (e : BusEvent) → connect_count (journal ++ event ∷ []) e ≡ one_more_if (connects e event) (connect_count journal e)
+    more :
+        (e : BusEvent)
+        → connect_count (journal ++ event ∷ []) e ≡ one_more_if (connects e event) (connect_count journal e)
     more e = count_push (connects e) journal event
 
-counted_connect : (journal : List Event) (event : BusEvent) → slice_set (connect_counts journal) (event_number event) (suc (slice_index (connect_counts journal) (event_number event))) ≡ map (λ e. one_more_if (event_number e == event_number event) (connect_count journal e)) bus_events
+counted_connect :
+    (journal : List Event) (event : BusEvent)
+    → slice_set (connect_counts journal) (event_number event)
+    (suc (slice_index (connect_counts journal) (event_number event)))
+    ≡ map (λ e. one_more_if (event_number e == event_number event) (connect_count journal e)) bus_events
 counted_connect journal Rd = refl
 counted_connect journal Rfo = refl
 counted_connect journal Inv = refl
@@ -73,7 +93,9 @@ counted_connect journal Pas = refl
 counted_connect journal Flu = refl
 
 -- One more event is counted.
-pub counted_more : (journal : List Event) (event : Event) → counted (connect_counts journal) event ≡ connect_counts (journal ++ event ∷ [])
+pub counted_more :
+    (journal : List Event) (event : Event)
+    → counted (connect_counts journal) event ≡ connect_counts (journal ++ event ∷ [])
 counted_more journal (Local board before after done) = sym (counts_push journal (Local board before after done))
 counted_more journal (Drop board line before) = sym (counts_push journal (Drop board line before))
 counted_more journal (Raise board) = sym (counts_push journal (Raise board))
@@ -82,7 +104,10 @@ counted_more journal (Connect t) = counted_connect journal t.event ∙ sym (coun
 counted_more journal (DataPhase e) = sym (counts_push journal (DataPhase e))
 
 -- Where an event is counted.
-pub counted_step : (journal : List Event) (i : ℕ) (event : Event) (before after : List ℕ) → i < length journal → event ≡ get_or journal i event → before ≡ connect_counts (take i journal) → after ≡ counted before event → after ≡ connect_counts (take (i + 1) journal)
+pub counted_step :
+    (journal : List Event) (i : ℕ) (event : Event) (before after : List ℕ) → i < length journal
+    → event ≡ get_or journal i event → before ≡ connect_counts (take i journal) → after ≡ counted before event
+    → after ≡ connect_counts (take (i + 1) journal)
 counted_step journal i event before after within is was then =
     then
     ∙ ap (λ (counts : List ℕ). counted counts event) was
@@ -90,18 +115,31 @@ counted_step journal i event before after within is was then =
     ∙ ap (λ (e : Event). connect_counts (take i journal ++ e ∷ [])) is
     ∙ ap connect_counts (sym (take_more journal i event within))
 
-pub counts_low_before : (journal : List Event) (i : ℕ) (counts : List ℕ) → length journal < 2 ^ 32 → counts ≡ connect_counts (take i journal) → (event : BusEvent) → slice_index counts (event_number event) < 2 ^ 32
+pub counts_low_before :
+    (journal : List Event) (i : ℕ) (counts : List ℕ) → length journal < 2 ^ 32
+    → counts ≡ connect_counts (take i journal) → (event : BusEvent) → slice_index counts (event_number event) < 2 ^ 32
 counts_low_before journal i counts short was event =
     let low = counts_low (take i journal) event in
     let long = length-take i journal in
     rw was (omega (arith, low, long, short))
 
 -- An entry adds its reply.
-sum_with_entry : (history : List Entry) (board : ℕ) (done : Option Done) → replies_sum (with_entry history board done) ≡ replies_sum history + reply_if_done done
+sum_with_entry :
+    (history : List Entry) (board : ℕ) (done : Option Done)
+    → replies_sum (with_entry history board done) ≡ replies_sum history + reply_if_done done
 sum_with_entry history board None = omega arith
-sum_with_entry history board (Some done) = sum_by_push (λ (e : Entry). unwrap_or e.reply 0) history (record { board = board; place = suc (length (entries_of board history)); access = done.access; reply = done.reply })
+sum_with_entry history board (Some done) =
+    sum_by_push (λ (e : Entry). unwrap_or e.reply 0) history
+    (record {
+      board = board;
+      place = suc (length (entries_of board history));
+      access = done.access;
+      reply = done.reply;
+    })
 
-sum_with : (history : List Entry) (event : Event) → replies_sum (entries_with history event) ≡ replies_sum history + reply_in event
+sum_with :
+    (history : List Entry) (event : Event)
+    → replies_sum (entries_with history event) ≡ replies_sum history + reply_in event
 sum_with history (Local board before after done) = sum_with_entry history board (Some done)
 sum_with history (DataPhase e) = sum_with_entry history e.master e.done
 sum_with history (Drop board line before) = omega arith
@@ -109,7 +147,9 @@ sum_with history (Raise board) = omega arith
 sum_with history (Grant by winner lines rounds) = omega arith
 sum_with history (Connect t) = omega arith
 
-sum_after : (history : List Entry) (events : List Event) → replies_sum (entries_after history events) ≡ replies_sum history + sum_by reply_in events
+sum_after :
+    (history : List Entry) (events : List Event)
+    → replies_sum (entries_after history events) ≡ replies_sum history + sum_by reply_in events
 sum_after history [] = omega arith
 sum_after history (event ∷ events) =
     let rest = sum_after (entries_with history event) events in
@@ -122,9 +162,13 @@ pub sum_of_events : (journal : List Event) → sum_by reply_in journal ≡ repli
 sum_of_events journal = let all = sum_after [] journal in omega (arith, all)
 
 -- The lines by the counts of a journal are those of its bus events.
-pub lines_by_counts : (journal : List Event) (counts : List ℕ) → counts ≡ connect_counts journal → flat_map (counts_line counts) bus_events ≡ flat_map (event_line journal) bus_events
+pub lines_by_counts :
+    (journal : List Event) (counts : List ℕ) → counts ≡ connect_counts journal
+    → flat_map (counts_line counts) bus_events ≡ flat_map (event_line journal) bus_events
 lines_by_counts journal counts is = ap (λ (cs : List ℕ). flat_map (counts_line cs) bus_events) is
 
 -- Five pieces after a text, one after another.
-pub five_pieces : (start first second third fourth last a b c d e : List ℕ) → first ≡ start ++ a → second ≡ first ++ b → third ≡ second ++ c → fourth ≡ third ++ d → last ≡ fourth ++ e → last ≡ start ++ (a ++ (b ++ (c ++ (d ++ e))))
+pub five_pieces :
+    (start first second third fourth last a b c d e : List ℕ) → first ≡ start ++ a → second ≡ first ++ b
+    → third ≡ second ++ c → fourth ≡ third ++ d → last ≡ fourth ++ e → last ≡ start ++ (a ++ (b ++ (c ++ (d ++ e))))
 five_pieces start first second third fourth last a b c d e p q r s t = rw (t, s, r, q, p) (simp append_assoc refl)

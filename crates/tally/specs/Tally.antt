@@ -39,7 +39,8 @@ tally_line word value = line_bytes (word ∷ decimal value ∷ [])
 abbrev pub event_line : List Event → BusEvent → List ℕ
 event_line journal event = tally_line (bus_event_word event) (connect_count journal event)
 
--- The thirteen lines of the tally of a generated setup that was run, with the journal and the history of the run.
+-- The thirteen lines of the tally of a generated setup that was run, with the journal and the
+-- history of the run.
 abbrev pub tally_text : ℕ → List Event → List Entry → List ℕ
 tally_text n journal history =
     tally_line (codes "seed") n
@@ -56,7 +57,8 @@ counted counts (Local board before after done) = counts
 counted counts (Drop board line before) = counts
 counted counts (Raise board) = counts
 counted counts (Grant by winner lines rounds) = counts
-counted counts (Connect t) = slice_set counts (event_number t.event) (suc (slice_index counts (event_number t.event)))
+counted counts (Connect t) =
+    slice_set counts (event_number t.event) (suc (slice_index counts (event_number t.event)))
 counted counts (DataPhase e) = counts
 
 -- The word that was read, if an access was completed and it was a read.
@@ -75,4 +77,5 @@ reply_in (DataPhase e) = reply_if_done e.done
 
 -- The line of a bus event, by the counts.
 abbrev pub counts_line : List ℕ → BusEvent → List ℕ
-counts_line counts event = tally_line (bus_event_word event) (slice_index counts (event_number event))
+counts_line counts event =
+    tally_line (bus_event_word event) (slice_index counts (event_number event))

@@ -18,7 +18,9 @@ pub(crate) fn event_number(event: BusEvent) -> usize
 
 fn count(counts: &mut [u64; 9], event: BusEvent)
     requires { slice_index counts.old (event_number event) < 2 ^ 32 }
-    ensures { counts.new ≡ slice_set counts.old (event_number event) (suc (slice_index counts.old (event_number event))) }
+    ensures { counts.new
+        ≡ slice_set counts.old (event_number event)
+        (suc (slice_index counts.old (event_number event))) }
 {
     counts[event_number(event)] += 1;
 }

@@ -34,7 +34,8 @@ fn line(text: &mut Text, word: &str, value: u64)
 /// The lines of bus events, by the counts of all.
 fn event_lines(text: &mut Text, counts: &[u64; 9], events: &[BusEvent])
     requires { 32 * length events.now ≤ text.old.spare }
-    ensures bytes { text.new.bytes ≡ text.old.bytes ++ flat_map (counts_line counts.now) events.now }
+    ensures bytes { text.new.bytes
+        ≡ text.old.bytes ++ flat_map (counts_line counts.now) events.now }
     ensures spare { text.old.spare ≤ text.new.spare + 32 * length events.now }
     ensures kept { KeepsRoom text.old text.new }
 {
@@ -43,11 +44,13 @@ fn event_lines(text: &mut Text, counts: &[u64; 9], events: &[BusEvent])
     }
 }
 
-/// Appends the tally of a generated setup that was run: the number that it was made of, and what its journal tells.
+/// Appends the tally of a generated setup that was run: the number that it was made of, and what
+/// its journal tells.
 pub fn write_tally(n: u64, journal: &[Event], text: &mut Text)
     requires events { length journal.now < 2 ^ 32 }
     requires room { 512 ≤ text.old.spare }
-    ensures tally { text.new.bytes ≡ text.old.bytes ++ tally_text n journal.now (entries journal.now) }
+    ensures tally { text.new.bytes
+        ≡ text.old.bytes ++ tally_text n journal.now (entries journal.now) }
     ensures kept { KeepsRoom text.old text.new }
 {
     line(text, "seed", n);

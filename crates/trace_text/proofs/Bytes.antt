@@ -27,9 +27,11 @@ split_only byte [] none = refl
 split_only byte (b ∷ x) none = rw none.0 (ap (onto_first b) (split_only byte x none.1))
 
 -- What is joined by a byte is cut at it into the same pieces.
-pub split_joined : (byte : ℕ) (w : List ℕ) (ws : Words) → NoneIn byte (w ∷ ws) → pieces byte (join_with_byte byte (w ∷ ws)) ≡ w ∷ ws
+pub split_joined :
+    (byte : ℕ) (w : List ℕ) (ws : Words) → NoneIn byte (w ∷ ws) → pieces byte (join_with_byte byte (w ∷ ws)) ≡ w ∷ ws
 split_joined byte w [] none = split_only byte w none.0
-split_joined byte w (v ∷ ws) none = split_first byte w (join_with_byte byte (v ∷ ws)) none.0 ∙ ap (λ (x : Words). w ∷ x) (split_joined byte v ws none.1)
+split_joined byte w (v ∷ ws) none =
+    split_first byte w (join_with_byte byte (v ∷ ws)) none.0 ∙ ap (λ (x : Words). w ∷ x) (split_joined byte v ws none.1)
 
 pub two_pieces : (byte : ℕ) (x y : List ℕ) → NoneOf byte x → NoneOf byte y → pieces byte (x ++ byte ∷ y) ≡ x ∷ y ∷ []
 two_pieces byte x y h k = split_first byte x y h ∙ ap (λ (z : Words). x ∷ z) (split_only byte y k)
@@ -37,7 +39,10 @@ two_pieces byte x y h k = split_first byte x y h ∙ ap (λ (z : Words). x ∷ z
 -- ---- digits
 
 apart : (b byte : ℕ) → (48 ≤ b) × (b ≤ 57) → (byte < 48) ⊎ (57 < byte) → eqb b byte ≡ false
-apart b byte within off = ne_eqb b byte (λ e. ⊎_elim (λ (l : byte < 48). let k = within.0 in absurd (omega arith)) (λ (l : 57 < byte). let k = within.1 in absurd (omega arith)) off)
+apart b byte within off =
+    ne_eqb b byte (λ e.
+    ⊎_elim (λ (l : byte < 48). let k = within.0 in absurd (omega arith))
+    (λ (l : 57 < byte). let k = within.1 in absurd (omega arith)) off)
 
 digits_none : (byte : ℕ) (ds : List ℕ) → AreDigits ds → (byte < 48) ⊎ (57 < byte) → NoneOf byte ds
 digits_none byte [] digits off = tt
@@ -65,11 +70,13 @@ both false b h = absurd cc
 
 pub ink_append : (x y : List ℕ) → is_ink x ≡ true → is_ink y ≡ true → is_ink (x ++ y) ≡ true
 ink_append [] y h k = k
-ink_append (b ∷ x) y h k = let p = both (ltb 32 b) (is_ink x) h in both_true (ltb 32 b) (is_ink (x ++ y)) p.0 (ink_append x y p.1 k)
+ink_append (b ∷ x) y h k =
+    let p = both (ltb 32 b) (is_ink x) h in both_true (ltb 32 b) (is_ink (x ++ y)) p.0 (ink_append x y p.1 k)
 
 digits_ink : (ds : List ℕ) → AreDigits ds → is_ink ds ≡ true
 digits_ink [] digits = refl
-digits_ink (d ∷ ds) digits = both_true (ltb 32 d) (is_ink ds) (lt-ltb 32 d (let k = digits.0.0 in omega arith)) (digits_ink ds digits.1)
+digits_ink (d ∷ ds) digits =
+    both_true (ltb 32 d) (is_ink ds) (lt-ltb 32 d (let k = digits.0.0 in omega arith)) (digits_ink ds digits.1)
 
 pub decimal_ink : (n : ℕ) → n < 2 ^ 64 → is_ink (decimal n) ≡ true
 decimal_ink n small = digits_ink (decimal n) (decimal_digits n small)
@@ -78,7 +85,8 @@ decimal_ink n small = digits_ink (decimal n) (decimal_digits n small)
 pub ink_none : (byte : ℕ) (w : List ℕ) → byte ≤ 32 → is_ink w ≡ true → NoneOf byte w
 ink_none byte [] low ink = tt
 ink_none byte (b ∷ w) low ink =
-    let p = both (ltb 32 b) (is_ink w) ink in let above = ltb-true 32 b p.0 in (ne_eqb b byte (λ e. absurd (omega arith)), ink_none byte w low p.1)
+    let p = both (ltb 32 b) (is_ink w) ink in
+    let above = ltb-true 32 b p.0 in (ne_eqb b byte (λ e. absurd (omega arith)), ink_none byte w low p.1)
 
 pub ink_in : (byte : ℕ) (ws : Words) → byte ≤ 32 → AreInk ws → NoneIn byte ws
 ink_in byte [] low ink = tt
@@ -89,12 +97,20 @@ ink_words [] ys h k = k
 ink_words (x ∷ xs) ys h k = (h.0, ink_words xs ys h.1 k)
 
 -- Words with a byte between two of them have no other byte than theirs and that one.
-pub joined_none : (byte between : ℕ) (ws : Words) → eqb between byte ≡ false → NoneIn byte ws → NoneOf byte (join_with_byte between ws)
+pub joined_none :
+    (byte between : ℕ) (ws : Words) → eqb between byte ≡ false → NoneIn byte ws
+    → NoneOf byte (join_with_byte between ws)
 joined_none byte between [] other none = tt
 joined_none byte between (w ∷ []) other none = none.0
-joined_none byte between (w ∷ v ∷ ws) other none = none_append byte w (between ∷ join_with_byte between (v ∷ ws)) none.0 (other, joined_none byte between (v ∷ ws) other none.1)
+joined_none byte between (w ∷ v ∷ ws) other none =
+    none_append byte w (between ∷ join_with_byte between (v ∷ ws)) none.0
+    (other, joined_none byte between (v ∷ ws) other none.1)
 
-pub joined_ink : (between : ℕ) (ws : Words) → ltb 32 between ≡ true → AreInk ws → is_ink (join_with_byte between ws) ≡ true
+pub joined_ink :
+    (between : ℕ) (ws : Words) → ltb 32 between ≡ true → AreInk ws → is_ink (join_with_byte between ws) ≡ true
 joined_ink between [] high ink = refl
 joined_ink between (w ∷ []) high ink = ink.0
-joined_ink between (w ∷ v ∷ ws) high ink = ink_append w (between ∷ join_with_byte between (v ∷ ws)) ink.0 (both_true (ltb 32 between) (is_ink (join_with_byte between (v ∷ ws))) high (joined_ink between (v ∷ ws) high ink.1))
+joined_ink between (w ∷ v ∷ ws) high ink =
+    ink_append w (between ∷ join_with_byte between (v ∷ ws)) ink.0
+    (both_true (ltb 32 between) (is_ink (join_with_byte between (v ∷ ws))) high
+    (joined_ink between (v ∷ ws) high ink.1))

@@ -40,7 +40,9 @@ event_ink e = each_bus (λ e. is_ink (bus_event_word e)) refl e
 outcome_ink : (o : Outcome) → is_ink (outcome_word o) ≡ true
 outcome_ink (Fixed s) = state_ink s
 outcome_ink (OnHit hit miss) =
-    ink_append (codes "CH:" ++ state_word hit ++ codes "/") (state_word miss) (ink_append (codes "CH:" ++ state_word hit) (codes "/") (ink_append (codes "CH:") (state_word hit) refl (state_ink hit)) refl) (state_ink miss)
+    ink_append (codes "CH:" ++ state_word hit ++ codes "/") (state_word miss)
+    (ink_append (codes "CH:" ++ state_word hit) (codes "/")
+    (ink_append (codes "CH:") (state_word hit) refl (state_ink hit)) refl) (state_ink miss)
 
 signals_ink : (r : Response) → is_ink (signals_text r) ≡ true
 signals_ink r = go r.ch r.di r.sl
@@ -56,8 +58,12 @@ signals_ink r = go r.ch r.di r.sl
     go true true true = refl
 
 answer_ink : (a : Answer) → a.board ≤ 16 → is_ink (answer_word a) ≡ true
-answer_ink a h = ink_append (decimal a.board) (codes "=" ++ (state_word a.action.result ++ signals_text a.action.response)) (board_ink a.board h)
-    (ink_append (codes "=") (state_word a.action.result ++ signals_text a.action.response) refl (ink_append (state_word a.action.result) (signals_text a.action.response) (state_ink a.action.result) (signals_ink a.action.response)))
+answer_ink a h =
+    ink_append (decimal a.board) (codes "=" ++ (state_word a.action.result ++ signals_text a.action.response))
+    (board_ink a.board h)
+    (ink_append (codes "=") (state_word a.action.result ++ signals_text a.action.response) refl
+    (ink_append (state_word a.action.result) (signals_text a.action.response) (state_ink a.action.result)
+    (signals_ink a.action.response)))
 
 each_answer : (xs : List Answer) → AllByRecursion IsBoard (answer_boards xs) → AreInk (map answer_word xs)
 each_answer [] h = tt
@@ -68,7 +74,9 @@ answers_ink [] h = (refl, tt)
 answers_ink (a ∷ xs) h = each_answer (a ∷ xs) h
 
 placed_ink : (p : ℕ × State) → p.0 ≤ 16 → is_ink (placed_word p) ≡ true
-placed_ink p h = ink_append (decimal p.0) (codes "=" ++ state_word p.1) (board_ink p.0 h) (ink_append (codes "=") (state_word p.1) refl (state_ink p.1))
+placed_ink p h =
+    ink_append (decimal p.0) (codes "=" ++ state_word p.1) (board_ink p.0 h)
+    (ink_append (codes "=") (state_word p.1) refl (state_ink p.1))
 
 each_state : (ss : List (ℕ × State)) → AllByRecursion IsBoard (state_boards ss) → AreInk (map placed_word ss)
 each_state [] h = tt
@@ -113,11 +121,45 @@ carried_ink None h = (refl, tt)
 carried_ink (Some d) h = done_ink d.access d.reply h
 
 pub words_ink : (e : Event) → InRange e → AreInk (event_words e)
-words_ink (Local b before after done) h = (refl, (board_ink b h.0.1, (state_ink before, (refl, (state_ink after, (refl, done_ink done.access done.reply h.1))))))
-words_ink (Drop b l before) h = let k = h.1 in (refl, (board_ink b h.0.1, (refl, (number_ink l (omega arith), (refl, (state_ink before, tt))))))
+words_ink (Local b before after done) h = (
+  refl,
+  (board_ink b h.0.1, (state_ink before, (refl, (state_ink after, (refl, done_ink done.access done.reply h.1))))),
+)
+words_ink (Drop b l before) h =
+    let k = h.1 in (refl, (board_ink b h.0.1, (refl, (number_ink l (omega arith), (refl, (state_ink before, tt))))))
 words_ink (Raise b) h = (refl, (board_ink b h.1, tt))
-words_ink (Grant by winner lines rounds) h = let n = h.2.1 in let r = h.3 in (refl, (board_ink by h.0.1, (refl, (board_ink winner h.1.1, (refl, (number_ink lines (omega arith), (refl, (number_ink rounds (omega arith), tt))))))))
-words_ink (Connect c) h = let k = h.1 in (refl, (board_ink c.master h.0.1, (event_ink c.event, (refl, (number_ink c.line (omega arith), (refl, (outcome_ink c.outcome, (refl, answers_ink c.answers h.2.1.each))))))))
+words_ink (Grant by winner lines rounds) h =
+    let n = h.2.1 in
+    let r = h.3 in (
+      refl,
+      (
+        board_ink by h.0.1,
+        (
+          refl,
+          (
+            board_ink winner h.1.1,
+            (refl, (number_ink lines (omega arith), (refl, (number_ink rounds (omega arith), tt)))),
+          ),
+        ),
+      ),
+    )
+words_ink (Connect c) h =
+    let k = h.1 in (
+      refl,
+      (
+        board_ink c.master h.0.1,
+        (
+          event_ink c.event,
+          (
+            refl,
+            (
+              number_ink c.line (omega arith),
+              (refl, (outcome_ink c.outcome, (refl, answers_ink c.answers h.2.1.each))),
+            ),
+          ),
+        ),
+      ),
+    )
 words_ink (DataPhase d) h = let k = h.1 in (
   refl,
   (
@@ -135,8 +177,13 @@ words_ink (DataPhase d) h = let k = h.1 in (
               (
                 refl,
                 (
-                  text_ink (taker_parts d.takers.memory d.takers.boards) (parts_ink d.takers.memory d.takers.boards h.3.1.each),
-                  (refl, ink_words (map placed_word d.states) (codes "done" ∷ carried_words d.done) (states_ink d.master d.states h.0.1 h.4) (refl, carried_ink d.done h.5)),
+                  text_ink (taker_parts d.takers.memory d.takers.boards)
+                      (parts_ink d.takers.memory d.takers.boards h.3.1.each),
+                  (
+                    refl,
+                    ink_words (map placed_word d.states) (codes "done" ∷ carried_words d.done)
+                        (states_ink d.master d.states h.0.1 h.4) (refl, carried_ink d.done h.5),
+                  ),
                 ),
               ),
             ),

@@ -37,7 +37,8 @@ weight_append (x ∷ xs) ys = let h = weight_append xs ys in omega arith
 
 joined_length : (byte : ℕ) (w : List ℕ) (ws : Words) → length (join_with_byte byte (w ∷ ws)) + 1 ≡ weight (w ∷ ws)
 joined_length byte w [] = omega arith
-joined_length byte w (v ∷ ws) = let h = joined_length byte v ws in let l = length-append w (byte ∷ join_with_byte byte (v ∷ ws)) in omega arith
+joined_length byte w (v ∷ ws) =
+    let h = joined_length byte v ws in let l = length-append w (byte ∷ join_with_byte byte (v ∷ ws)) in omega arith
 
 -- ---- words
 
@@ -72,7 +73,9 @@ event_three e = leb-true (length (bus_event_word e)) 3 (each_bus (λ e. leb (len
 outcome_six : (o : Outcome) → length (outcome_word o) ≤ 6
 outcome_six (Fixed s) = let l = state_one s in omega arith
 outcome_six (OnHit hit miss) =
-    let a = length-append (codes "CH:" ++ state_word hit ++ codes "/") (state_word miss) in let b = length-append (codes "CH:" ++ state_word hit) (codes "/") in let c = length-append (codes "CH:") (state_word hit) in
+    let a = length-append (codes "CH:" ++ state_word hit ++ codes "/") (state_word miss) in
+    let b = length-append (codes "CH:" ++ state_word hit) (codes "/") in
+    let c = length-append (codes "CH:") (state_word hit) in
     let h = state_one hit in let m = state_one miss in omega arith
 
 mark_short : (b : Bool) (name : List ℕ) → length name ≡ 3 → length (mark b name) ≤ 3
@@ -81,32 +84,43 @@ mark_short false name h = omega arith
 
 signals_short : (r : Response) → length (signals_text r) ≤ 9
 signals_short r =
-    let a = mark_short r.ch (codes "+CH") refl in let b = mark_short r.di (codes "+DI") refl in let c = mark_short r.sl (codes "+SL") refl in
-    let l = length-append (mark r.ch (codes "+CH")) (mark r.di (codes "+DI") ++ mark r.sl (codes "+SL")) in let m = length-append (mark r.di (codes "+DI")) (mark r.sl (codes "+SL")) in omega arith
+    let a = mark_short r.ch (codes "+CH") refl in
+    let b = mark_short r.di (codes "+DI") refl in let c = mark_short r.sl (codes "+SL") refl in
+    let l = length-append (mark r.ch (codes "+CH")) (mark r.di (codes "+DI") ++ mark r.sl (codes "+SL")) in
+    let m = length-append (mark r.di (codes "+DI")) (mark r.sl (codes "+SL")) in omega arith
 
 answer_short : (a : Answer) → a.board ≤ 16 → length (answer_word a) ≤ 13
 answer_short a h =
     let b = board_short a.board h in let s = state_one a.action.result in let r = signals_short a.action.response in
-    let l = length-append (decimal a.board) (61 ∷ (state_word a.action.result ++ signals_text a.action.response)) in let m = length-append (state_word a.action.result) (signals_text a.action.response) in omega arith
+    let l = length-append (decimal a.board) (61 ∷ (state_word a.action.result ++ signals_text a.action.response)) in
+    let m = length-append (state_word a.action.result) (signals_text a.action.response) in omega arith
 
-answers_short : (xs : List Answer) → AllByRecursion IsBoard (answer_boards xs) → weight (map answer_word xs) ≤ 14 * length xs
+answers_short :
+    (xs : List Answer) → AllByRecursion IsBoard (answer_boards xs) → weight (map answer_word xs) ≤ 14 * length xs
 answers_short [] h = omega arith
 answers_short (a ∷ xs) h = let l = answer_short a h.0.1 in let k = answers_short xs h.1 in omega arith
 
-all_answers : (xs : List Answer) → AllByRecursion IsBoard (answer_boards xs) → length xs ≤ 15 → weight (answers_words xs) ≤ 210
+all_answers :
+    (xs : List Answer) → AllByRecursion IsBoard (answer_boards xs) → length xs ≤ 15 → weight (answers_words xs) ≤ 210
 all_answers [] h few = omega arith
 all_answers (a ∷ xs) h few = let k = answers_short (a ∷ xs) h in omega arith
 
 placed_short : (p : ℕ × State) → p.0 ≤ 16 → length (placed_word p) ≤ 4
-placed_short p h = let b = board_short p.0 h in let s = state_one p.1 in let l = length-append (decimal p.0) (61 ∷ state_word p.1) in omega arith
+placed_short p h =
+    let b = board_short p.0 h in
+    let s = state_one p.1 in let l = length-append (decimal p.0) (61 ∷ state_word p.1) in omega arith
 
-each_short : (ss : List (ℕ × State)) → AllByRecursion IsBoard (state_boards ss) → weight (map placed_word ss) ≤ 5 * length ss
+each_short :
+    (ss : List (ℕ × State)) → AllByRecursion IsBoard (state_boards ss) → weight (map placed_word ss) ≤ 5 * length ss
 each_short [] h = omega arith
 each_short (s ∷ ss) h = let l = placed_short s h.0.1 in let k = each_short ss h.1 in omega arith
 
-states_short : (master : ℕ) (ss : List (ℕ × State)) → master ≤ 16 → AreStates master ss → weight (map placed_word ss) ≤ 80
+states_short :
+    (master : ℕ) (ss : List (ℕ × State)) → master ≤ 16 → AreStates master ss → weight (map placed_word ss) ≤ 80
 states_short master [] b h = absurd h
-states_short master (s ∷ others) b h = let e = h.0 in let few = h.1 in let l = placed_short s (omega arith) in let k = each_short others h.2.each in omega arith
+states_short master (s ∷ others) b h =
+    let e = h.0 in
+    let few = h.1 in let l = placed_short s (omega arith) in let k = each_short others h.2.each in omega arith
 
 source_short : (s : Source) → IsSource s → length (source_word s) ≤ 6
 source_short Nobody h = omega arith
@@ -117,7 +131,8 @@ boards_short : (bs : List ℕ) → AllByRecursion IsBoard bs → weight (map dec
 boards_short [] h = omega arith
 boards_short (b ∷ bs) h = let l = board_short b h.0.1 in let k = boards_short bs h.1 in omega arith
 
-parts_short : (memory : Bool) (bs : List ℕ) → AllByRecursion IsBoard bs → length bs ≤ 16 → weight (taker_parts memory bs) ≤ 55
+parts_short :
+    (memory : Bool) (bs : List ℕ) → AllByRecursion IsBoard bs → length bs ≤ 16 → weight (taker_parts memory bs) ≤ 55
 parts_short true bs h few = let k = boards_short bs h in omega arith
 parts_short false bs h few = let k = boards_short bs h in omega arith
 
@@ -143,21 +158,31 @@ carried_short (Some d) h = done_short d.access d.reply h
 
 event_short : (e : Event) → InRange e → weight (event_words e) ≤ 253
 event_short (Local b before after done) h =
-    let x = board_short b h.0.1 in let s = state_one before in let t = state_one after in let d = done_short done.access done.reply h.1 in omega arith
-event_short (Drop b l before) h = let x = board_short b h.0.1 in let y = line_short l h.1 in let s = state_one before in omega arith
+    let x = board_short b h.0.1 in
+    let s = state_one before in let t = state_one after in let d = done_short done.access done.reply h.1 in omega arith
+event_short (Drop b l before) h =
+    let x = board_short b h.0.1 in let y = line_short l h.1 in let s = state_one before in omega arith
 event_short (Raise b) h = let x = board_short b h.1 in omega arith
-event_short (Grant by winner lines rounds) h = let x = board_short by h.0.1 in let y = board_short winner h.1.1 in let n = lines_short lines h.2.1 in let r = digit_short rounds h.3 in omega arith
+event_short (Grant by winner lines rounds) h =
+    let x = board_short by h.0.1 in
+    let y = board_short winner h.1.1 in let n = lines_short lines h.2.1 in let r = digit_short rounds h.3 in omega arith
 event_short (Connect c) h =
-    let x = board_short c.master h.0.1 in let y = line_short c.line h.1 in let v = event_three c.event in let o = outcome_six c.outcome in let z = all_answers c.answers h.2.1.each h.2.0 in omega arith
+    let x = board_short c.master h.0.1 in
+    let y = line_short c.line h.1 in
+    let v = event_three c.event in
+    let o = outcome_six c.outcome in let z = all_answers c.answers h.2.1.each h.2.0 in omega arith
 event_short (DataPhase d) h =
-    let x = board_short d.master h.0.1 in let y = line_short d.line h.1 in let v = event_three d.event in let s = source_short d.source h.2 in
-    let t = takers_short (taker_parts d.takers.memory d.takers.boards) (parts_short d.takers.memory d.takers.boards h.3.1.each h.3.0) in
+    let x = board_short d.master h.0.1 in
+    let y = line_short d.line h.1 in let v = event_three d.event in let s = source_short d.source h.2 in
+    let t = takers_short (taker_parts d.takers.memory d.takers.boards)
+    (parts_short d.takers.memory d.takers.boards h.3.1.each h.3.0) in
     let u = states_short d.master d.states h.0.1 h.4 in let z = carried_short d.done h.5 in
     let w = weight_append (map placed_word d.states) (codes "done" ∷ carried_words d.done) in omega arith
 
 text_length : (ws : Words) → 0 < length ws → length (join_with_byte 32 ws ++ 10 ∷ []) ≡ weight ws
 text_length [] some = absurd (omega arith)
-text_length (w ∷ ws) some = let l = joined_length 32 w ws in let m = length-append (join_with_byte 32 (w ∷ ws)) (10 ∷ []) in omega arith
+text_length (w ∷ ws) some =
+    let l = joined_length 32 w ws in let m = length-append (join_with_byte 32 (w ∷ ws)) (10 ∷ []) in omega arith
 
 -- No line has more than 253 bytes.
 pub line_length : (e : Event) → InRange e → length (line_of_event e) ≤ 253

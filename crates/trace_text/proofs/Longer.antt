@@ -16,11 +16,14 @@ pub places_end : (ps : List ℕ) → more_places ps [] ≡ Some ps
 unfolding more_places
 places_end ps = refl
 
-pub places_none : (ps : List ℕ) (w : List ℕ) (ws : Words) → added_place ps (board_of w) ≡ None → more_places ps (w ∷ ws) ≡ None
+pub places_none :
+    (ps : List ℕ) (w : List ℕ) (ws : Words) → added_place ps (board_of w) ≡ None → more_places ps (w ∷ ws) ≡ None
 unfolding more_places
 places_none ps w ws h = rw h refl
 
-pub places_more : (ps longer : List ℕ) (w : List ℕ) (ws : Words) → added_place ps (board_of w) ≡ Some longer → more_places ps (w ∷ ws) ≡ more_places longer ws
+pub places_more :
+    (ps longer : List ℕ) (w : List ℕ) (ws : Words) → added_place ps (board_of w) ≡ Some longer
+    → more_places ps (w ∷ ws) ≡ more_places longer ws
 unfolding more_places
 places_more ps longer w ws h = rw h refl
 
@@ -30,11 +33,15 @@ pub answers_end : (xs : List Answer) → more_answers xs [] ≡ Some xs
 unfolding more_answers
 answers_end xs = refl
 
-pub answers_none : (xs : List Answer) (w : List ℕ) (ws : Words) → added_answer xs (answer_of w) ≡ None → more_answers xs (w ∷ ws) ≡ None
+pub answers_none :
+    (xs : List Answer) (w : List ℕ) (ws : Words) → added_answer xs (answer_of w) ≡ None
+    → more_answers xs (w ∷ ws) ≡ None
 unfolding more_answers
 answers_none xs w ws h = rw h refl
 
-pub answers_more : (xs longer : List Answer) (w : List ℕ) (ws : Words) → added_answer xs (answer_of w) ≡ Some longer → more_answers xs (w ∷ ws) ≡ more_answers longer ws
+pub answers_more :
+    (xs longer : List Answer) (w : List ℕ) (ws : Words) → added_answer xs (answer_of w) ≡ Some longer
+    → more_answers xs (w ∷ ws) ≡ more_answers longer ws
 unfolding more_answers
 answers_more xs longer w ws h = rw h refl
 
@@ -50,23 +57,31 @@ pub states_end : (master : ℕ) (ss : List (ℕ × State)) → more_states maste
 unfolding more_states
 states_end master ss = refl
 
-pub states_done : (master : ℕ) (ss : List (ℕ × State)) (w : List ℕ) (ws : Words) → bytes_eq w (codes "done") ≡ true → more_states master ss (w ∷ ws) ≡ Some (ss, ws)
+pub states_done :
+    (master : ℕ) (ss : List (ℕ × State)) (w : List ℕ) (ws : Words) → bytes_eq w (codes "done") ≡ true
+    → more_states master ss (w ∷ ws) ≡ Some (ss, ws)
 unfolding more_states
 states_done master ss w ws h = rw h refl
 
-pub states_none : (master : ℕ) (ss : List (ℕ × State)) (w : List ℕ) (ws : Words) → bytes_eq w (codes "done") ≡ false → added_state master ss (placed_of w) ≡ None → more_states master ss (w ∷ ws) ≡ None
+pub states_none :
+    (master : ℕ) (ss : List (ℕ × State)) (w : List ℕ) (ws : Words) → bytes_eq w (codes "done") ≡ false
+    → added_state master ss (placed_of w) ≡ None → more_states master ss (w ∷ ws) ≡ None
 unfolding more_states
 states_none master ss w ws d h = rw (d, h) refl
 
-pub states_more : (master : ℕ) (ss longer : List (ℕ × State)) (w : List ℕ) (ws : Words) → bytes_eq w (codes "done") ≡ false → added_state master ss (placed_of w) ≡ Some longer
+pub states_more :
+    (master : ℕ) (ss longer : List (ℕ × State)) (w : List ℕ) (ws : Words) → bytes_eq w (codes "done") ≡ false
+    → added_state master ss (placed_of w) ≡ Some longer
     → more_states master ss (w ∷ ws) ≡ more_states master longer ws
 unfolding more_states
 states_more master ss longer w ws d h = rw (d, h) refl
 
-pub state_above : (ss : List (ℕ × State)) (n : ℕ) → last_of (drop 1 (state_boards ss)) < n → IsAboveRest (state_boards ss) n
+pub state_above :
+    (ss : List (ℕ × State)) (n : ℕ) → last_of (drop 1 (state_boards ss)) < n → IsAboveRest (state_boards ss) n
 state_above [] n lt = tt
 state_above (s ∷ ss) n lt = above_last (state_boards ss) n lt
 
-pub state_last : (ss : List (ℕ × State)) (p : ℕ × State) → 0 < length ss → last_of (drop 1 (state_boards (ss ++ p ∷ []))) ≡ p.0
+pub state_last :
+    (ss : List (ℕ × State)) (p : ℕ × State) → 0 < length ss → last_of (drop 1 (state_boards (ss ++ p ∷ []))) ≡ p.0
 state_last [] p some = absurd (omega arith)
 state_last (s ∷ ss) p some = ap last_of (map-push (λ (s : ℕ × State). s.0) ss p) ∙ last-push (state_boards ss) p.0

@@ -27,7 +27,8 @@ use Rattle.trace_text.proofs.Bytes.{NoneOf, none_append, two_pieces, decimal_non
 two_is : (ws : Words) (s : List ℕ × List ℕ) → two_sides ws ≡ Some s → ws ≡ s.0 ∷ s.1 ∷ []
 two_is [] s e = absurd cc
 two_is (a ∷ []) s e = absurd cc
-two_is (a ∷ b ∷ []) s e = let same = some_same {A = List ℕ × List ℕ} (a, b) s e in ap (λ (z : List ℕ × List ℕ). z.0 ∷ z.1 ∷ []) same
+two_is (a ∷ b ∷ []) s e =
+    let same = some_same {A = List ℕ × List ℕ} (a, b) s e in ap (λ (z : List ℕ × List ℕ). z.0 ∷ z.1 ∷ []) same
 two_is (a ∷ b ∷ c ∷ more) s e = absurd cc
 
 sides_is : (w : List ℕ) (s : List ℕ × List ℕ) → sides_of w ≡ Some s → w ≡ s.0 ++ 61 ∷ s.1
@@ -50,7 +51,12 @@ state_no_equals I = (refl, tt)
 
 pub placed_again : (p : ℕ × State) → IsBoard p.0 → placed_of (placed_word p) ≡ Some p
 unfolding placed_of
-placed_again p h = rw (sides_again (decimal p.0) (state_word p.1) (board_no_equals p.0 h) (state_no_equals p.1), board_again p.0 h, state_again p.1) refl
+placed_again p h =
+    rw (
+      sides_again (decimal p.0) (state_word p.1) (board_no_equals p.0 h) (state_no_equals p.1),
+      board_again p.0 h,
+      state_again p.1,
+    ) refl
 
 pub placed_is : (w : List ℕ) (p : ℕ × State) → placed_of w ≡ Some p → (w ≡ placed_word p) × IsBoard p.0
 unfolding placed_of
@@ -66,7 +72,9 @@ placed_is w p e =
 -- ---- signals
 
 -- The signals were found at this text, or after it.
-tried : (w : List ℕ) (x y : Response) (rest : Option Response) → (rest ≡ Some y → w ≡ signals_text y) → cond (bytes_eq w (signals_text x)) (Some x) rest ≡ Some y → w ≡ signals_text y
+tried :
+    (w : List ℕ) (x y : Response) (rest : Option Response) → (rest ≡ Some y → w ≡ signals_text y)
+    → cond (bytes_eq w (signals_text x)) (Some x) rest ≡ Some y → w ≡ signals_text y
 tried w x y rest behind e = go (bytes_eq w (signals_text x)) refl e
   where
     go : (b : Bool) → bytes_eq w (signals_text x) ≡ b → cond b (Some x) rest ≡ Some y → w ≡ signals_text y
@@ -76,8 +84,12 @@ tried w x y rest behind e = go (bytes_eq w (signals_text x)) refl e
 response_is : (w : List ℕ) (r : Response) → response_of w ≡ Some r → w ≡ signals_text r
 unfolding response_of
 response_is w r e =
-    tried w (response false false false) r _ (tried w (response true false false) r _ (tried w (response false true false) r _ (tried w (response false false true) r _
-    (tried w (response true true false) r _ (tried w (response true false true) r _ (tried w (response false true true) r _ (tried w (response true true true) r _ (λ e. absurd cc)))))))) e
+    tried w (response false false false) r _
+    (tried w (response true false false) r _
+    (tried w (response false true false) r _ (tried w (response false false true) r _
+    (tried w (response true true false) r _
+    (tried w (response true false true) r _
+    (tried w (response false true true) r _ (tried w (response true true true) r _ (λ e. absurd cc)))))))) e
 
 response_again : (r : Response) → response_of (signals_text r) ≡ Some r
 unfolding response_of
@@ -94,7 +106,9 @@ response_again r = go r.ch r.di r.sl
     go true true true = refl
 
 signals_no_equals : (r : Response) → NoneOf 61 (signals_text r)
-signals_no_equals r = none_append 61 (mark r.ch (codes "+CH")) (mark r.di (codes "+DI") ++ mark r.sl (codes "+SL")) (ch r.ch) (none_append 61 (mark r.di (codes "+DI")) (mark r.sl (codes "+SL")) (di r.di) (sl r.sl))
+signals_no_equals r =
+    none_append 61 (mark r.ch (codes "+CH")) (mark r.di (codes "+DI") ++ mark r.sl (codes "+SL")) (ch r.ch)
+    (none_append 61 (mark r.di (codes "+DI")) (mark r.sl (codes "+SL")) (di r.di) (sl r.sl))
   where
     ch : (b : Bool) → NoneOf 61 (mark b (codes "+CH"))
     ch true = (refl, (refl, (refl, tt)))
@@ -114,7 +128,9 @@ action_again : (a : SnoopAction) → action_of (state_word a.result ++ signals_t
 unfolding action_of state_of
 action_again a = go a.result
   where
-    go : (s : State) → action_of (state_word s ++ signals_text a.response) ≡ Some (record { result = s; response = a.response })
+    go :
+        (s : State)
+        → action_of (state_word s ++ signals_text a.response) ≡ Some (record { result = s; response = a.response })
     go M = rw (response_again a.response) refl
     go O = rw (response_again a.response) refl
     go E = rw (response_again a.response) refl
@@ -128,23 +144,33 @@ front_and_back (b ∷ w) = refl
 action_is : (w : List ℕ) (a : SnoopAction) → action_of w ≡ Some a → w ≡ state_word a.result ++ signals_text a.response
 unfolding action_of
 action_is w a e =
-    let s = bind_some (state_of (take 1 w)) (λ state. response_of (drop 1 w) >>= λ r. Some (record { result = state; response = r })) a e in
+    let s = bind_some (state_of (take 1 w))
+    (λ state. response_of (drop 1 w) >>= λ r. Some (record { result = state; response = r })) a e in
     let r = bind_some (response_of (drop 1 w)) (λ r. Some (record { result = s.0; response = r })) a s.2 in
     let made : SnoopAction = record { result = s.0; response = r.0 } in
     let same : made ≡ a = some_same made a r.2 in
-    front_and_back w ∙ ((λ i. state_is (take 1 w) s.0 s.1 i ++ response_is (drop 1 w) r.0 r.1 i) ∙ ap (λ (z : SnoopAction). state_word z.result ++ signals_text z.response) same)
+    front_and_back w
+    ∙ ((λ i. state_is (take 1 w) s.0 s.1 i ++ response_is (drop 1 w) r.0 r.1 i)
+    ∙ ap (λ (z : SnoopAction). state_word z.result ++ signals_text z.response) same)
 
 pub answer_again : (a : Answer) → IsBoard a.board → answer_of (answer_word a) ≡ Some a
 unfolding answer_of
 answer_again a h =
     let right : List ℕ = state_word a.action.result ++ signals_text a.action.response in
-    let none : NoneOf 61 right = none_append 61 (state_word a.action.result) (signals_text a.action.response) (state_no_equals a.action.result) (signals_no_equals a.action.response) in
-    rw (sides_again (decimal a.board) right (board_no_equals a.board h) none, board_again a.board h, action_again a.action) refl
+    let none : NoneOf 61 right =
+    none_append 61 (state_word a.action.result) (signals_text a.action.response) (state_no_equals a.action.result)
+    (signals_no_equals a.action.response) in
+    rw (
+      sides_again (decimal a.board) right (board_no_equals a.board h) none,
+      board_again a.board h,
+      action_again a.action,
+    ) refl
 
 pub answer_is : (w : List ℕ) (a : Answer) → answer_of w ≡ Some a → (w ≡ answer_word a) × IsBoard a.board
 unfolding answer_of
 answer_is w a e =
-    let s = bind_some (sides_of w) (λ s. board_of s.0 >>= λ b. action_of s.1 >>= λ x. Some (record { board = b; action = x })) a e in
+    let s = bind_some (sides_of w)
+    (λ s. board_of s.0 >>= λ b. action_of s.1 >>= λ x. Some (record { board = b; action = x })) a e in
     let b = bind_some (board_of s.0.0) (λ b. action_of s.0.1 >>= λ x. Some (record { board = b; action = x })) a s.2 in
     let x = bind_some (action_of s.0.1) (λ x. Some (record { board = b.0; action = x })) a b.2 in
     let made : Answer = record { board = b.0; action = x.0 } in
@@ -160,7 +186,9 @@ no_board : (w : List ℕ) (b : ℕ) → number_of w ≡ None → IsBoard b → b
 no_board w b none h = go (bytes_eq (decimal b) w) refl
   where
     go : (c : Bool) → bytes_eq (decimal b) w ≡ c → c ≡ false
-    go true k = let both : ◌≡◌ {A = Option ℕ} (board_of w) (Some b) = ap board_of (sym (is_word (decimal b) w k)) ∙ board_again b h in
+    go true k =
+        let both : ◌≡◌ {A = Option ℕ} (board_of w) (Some b) =
+        ap board_of (sym (is_word (decimal b) w k)) ∙ board_again b h in
         let gone : ◌≡◌ {A = Option ℕ} (board_of w) None = rw none refl in absurd cc
     go false k = refl
 
@@ -176,7 +204,10 @@ pub source_again : (s : Source) → IsSource s → source_of (source_word s) ≡
 unfolding source_of
 source_again Nobody h = refl
 source_again Memory h = refl
-source_again (Board b) h = rw (no_board (codes "none") b none_is_no_number h, no_board (codes "memory") b memory_is_no_number h, board_again b h) refl
+source_again (Board b) h =
+    rw
+    (no_board (codes "none") b none_is_no_number h, no_board (codes "memory") b memory_is_no_number h, board_again b h)
+    refl
 
 pub source_is : (w : List ℕ) (s : Source) → source_of w ≡ Some s → (w ≡ source_word s) × IsSource s
 unfolding source_of
@@ -184,12 +215,21 @@ source_is w s e = go (bytes_eq w (codes "none")) refl e
   where
     board : (o : Option ℕ) → board_of w ≡ o → (o >>= λ b. Some (Board b)) ≡ Some s → (w ≡ source_word s) × IsSource s
     board None h e = absurd cc
-    board (Some b) h e = let same = some_same (Board b) s e in let is = board_is w b h in (is.0 ∙ ap source_word same, subst IsSource same is.1)
+    board (Some b) h e =
+        let same = some_same (Board b) s e in
+        let is = board_is w b h in (is.0 ∙ ap source_word same, subst IsSource same is.1)
 
-    memory : (c : Bool) → bytes_eq w (codes "memory") ≡ c → cond c (Some Memory) (board_of w >>= λ b. Some (Board b)) ≡ Some s → (w ≡ source_word s) × IsSource s
-    memory true h e = let same = some_same Memory s e in (is_word w (codes "memory") h ∙ ap source_word same, subst IsSource same tt)
+    memory :
+        (c : Bool) → bytes_eq w (codes "memory") ≡ c
+        → cond c (Some Memory) (board_of w >>= λ b. Some (Board b)) ≡ Some s → (w ≡ source_word s) × IsSource s
+    memory true h e =
+        let same = some_same Memory s e in (is_word w (codes "memory") h ∙ ap source_word same, subst IsSource same tt)
     memory false h e = board (board_of w) refl e
 
-    go : (c : Bool) → bytes_eq w (codes "none") ≡ c → cond c (Some Nobody) (cond (bytes_eq w (codes "memory")) (Some Memory) (board_of w >>= λ b. Some (Board b))) ≡ Some s → (w ≡ source_word s) × IsSource s
-    go true h e = let same = some_same Nobody s e in (is_word w (codes "none") h ∙ ap source_word same, subst IsSource same tt)
+    go :
+        (c : Bool) → bytes_eq w (codes "none") ≡ c
+        → cond c (Some Nobody) (cond (bytes_eq w (codes "memory")) (Some Memory) (board_of w >>= λ b. Some (Board b)))
+        ≡ Some s → (w ≡ source_word s) × IsSource s
+    go true h e =
+        let same = some_same Nobody s e in (is_word w (codes "none") h ∙ ap source_word same, subst IsSource same tt)
     go false h e = memory (bytes_eq w (codes "memory")) refl e

@@ -66,7 +66,8 @@ ArePlaces places = (length places ≤ 16) × AreBoards places
 abbrev pub AreStates : ℕ → List (ℕ × State) → Type 0
 AreStates master [] = ⊥
 AreStates master (first ∷ others) =
-    (first.0 ≡ master) × (length others ≤ 15) × AreBoards (state_boards others) × AllByRecursion (λ b. b ≢ master) (state_boards others)
+    (first.0 ≡ master) × (length others ≤ 15) × AreBoards (state_boards others)
+    × AllByRecursion (λ b. b ≢ master) (state_boards others)
 
 -- Where words come from.
 abbrev pub IsSource : Source → Type 0
@@ -79,7 +80,9 @@ abbrev pub InRange : Event → Type 0
 InRange (Local b before after done) = IsBoard b × IsDone done
 InRange (Drop b l before) = IsBoard b × IsLine l
 InRange (Raise b) = IsBoard b
-InRange (Grant by winner lines rounds) = IsBoard by × IsBoard winner × ((1 ≤ lines) × (lines ≤ 255)) × (rounds ≤ 7)
+InRange (Grant by winner lines rounds) =
+    IsBoard by × IsBoard winner × ((1 ≤ lines) × (lines ≤ 255)) × (rounds ≤ 7)
 InRange (Connect c) = IsBoard c.master × IsLine c.line × AreAnswers c.answers
 InRange (DataPhase d) =
-    IsBoard d.master × IsLine d.line × IsSource d.source × ArePlaces d.takers.boards × AreStates d.master d.states × IsCarried d.done
+    IsBoard d.master × IsLine d.line × IsSource d.source × ArePlaces d.takers.boards
+    × AreStates d.master d.states × IsCarried d.done

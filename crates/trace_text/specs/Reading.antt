@@ -41,7 +41,8 @@ pieces byte text = slice_split (λ b. b == byte) text
 -- A number from `least` to `most`.
 abbrev pub fitting : ℕ → ℕ → Option ℕ → Option ℕ
 fitting least most None = None
-fitting least most (Some n) = if nat_le n most then (if nat_lt n least then None else Some n) else None
+fitting least most (Some n) =
+    if nat_le n most then (if nat_lt n least then None else Some n) else None
 
 -- The number that a word spells, from `least` to `most`.
 abbrev pub number_between : ℕ → ℕ → List ℕ → Option ℕ
@@ -84,15 +85,22 @@ response_of w =
 
 -- The state and the signals of an answer.
 unfoldable pub action_of : List ℕ → Option SnoopAction
-action_of w = state_of (take 1 w) >>= λ state. response_of (drop 1 w) >>= λ r. Some (record { result = state; response = r })
+action_of w =
+    state_of (take 1 w) >>=
+    λ state. response_of (drop 1 w) >>= λ r. Some (record { result = state; response = r })
 
 -- The answer that a word spells.
 unfoldable pub answer_of : List ℕ → Option Answer
-answer_of w = sides_of w >>= λ s. board_of s.0 >>= λ b. action_of s.1 >>= λ a. Some (record { board = b; action = a })
+answer_of w =
+    sides_of w >>=
+    λ s. board_of s.0 >>= λ b. action_of s.1 >>= λ a. Some (record { board = b; action = a })
 
 -- The source that a word spells.
 unfoldable pub source_of : List ℕ → Option Source
-source_of w = if bytes_eq w (codes "none") then Some Nobody else (if bytes_eq w (codes "memory") then Some Memory else (board_of w >>= λ b. Some (Board b)))
+source_of w =
+    if bytes_eq w (codes "none")
+    then Some Nobody
+    else (if bytes_eq w (codes "memory") then Some Memory else (board_of w >>= λ b. Some (Board b)))
 
 -- ---- lists
 
@@ -105,7 +113,8 @@ last_of (b ∷ c ∷ more) = last_of (c ∷ more)
 -- A board is added to those so far, where it is above the last of them.
 abbrev pub added_place : List ℕ → Option ℕ → Option (List ℕ)
 added_place places None = None
-added_place places (Some b) = if nat_lt (length places) 16 && nat_lt (last_of places) b then Some (places ++ b ∷ []) else None
+added_place places (Some b) =
+    if nat_lt (length places) 16 && nat_lt (last_of places) b then Some (places ++ b ∷ []) else None
 
 -- The boards of the remaining parts are added to those so far.
 unfoldable pub more_places : List ℕ → Words → Option (List ℕ)
@@ -121,7 +130,8 @@ abbrev pub takers_in : Words → Option Takers
 takers_in [] = None
 takers_in (w ∷ ws) =
     if bytes_eq w (codes "memory") then (more_places [] ws >>= λ boards. Some (takers true boards))
-    else (added_place [] (board_of w) >>= λ one. more_places one ws >>= λ boards. Some (takers false boards))
+    else (added_place [] (board_of w) >>=
+    λ one. more_places one ws >>= λ boards. Some (takers false boards))
 
 -- The takers that a word spells.
 unfoldable pub takers_of : List ℕ → Option Takers
@@ -130,12 +140,16 @@ takers_of w = if bytes_eq w (codes "none") then Some (takers false []) else take
 -- An answer is added to those so far, where its board is above the last of theirs.
 abbrev pub added_answer : List Answer → Option Answer → Option (List Answer)
 added_answer answers None = None
-added_answer answers (Some a) = if nat_lt (length answers) 15 && nat_lt (last_of (answer_boards answers)) a.board then Some (answers ++ a ∷ []) else None
+added_answer answers (Some a) =
+    if nat_lt (length answers) 15 && nat_lt (last_of (answer_boards answers)) a.board
+    then Some (answers ++ a ∷ [])
+    else None
 
 -- The answers of the remaining words are added to those so far.
 unfoldable pub more_answers : List Answer → Words → Option (List Answer)
 more_answers answers [] = Some answers
-more_answers answers (w ∷ ws) = added_answer answers (answer_of w) >>= λ longer. more_answers longer ws
+more_answers answers (w ∷ ws) =
+    added_answer answers (answer_of w) >>= λ longer. more_answers longer ws
 
 -- A value, where the line ends.
 abbrev pub ended : {A : Type 0} → A → Words → Option A
@@ -145,19 +159,28 @@ ended x (w ∷ ws) = None
 -- The answers up to the end of the line.
 unfoldable pub answers_at : Words → Option (List Answer)
 answers_at [] = None
-answers_at (w ∷ ws) = if bytes_eq w (codes "none") then ended [] ws else (added_answer [] (answer_of w) >>= λ one. more_answers one ws)
+answers_at (w ∷ ws) =
+    if bytes_eq w (codes "none")
+    then ended [] ws
+    else (added_answer [] (answer_of w) >>= λ one. more_answers one ws)
 
--- A state is added to those so far, where its board is another than the master and above the last of the others.
+-- A state is added to those so far, where its board is another than the master and above the last
+-- of the others.
 abbrev pub added_state : ℕ → List (ℕ × State) → Option (ℕ × State) → Option (List (ℕ × State))
 added_state master states None = None
 added_state master states (Some p) =
-    if nat_lt (length states) 16 && nat_lt (last_of (drop 1 (state_boards states))) p.0 && not (p.0 == master) then Some (states ++ p ∷ []) else None
+    if nat_lt (length states) 16 && nat_lt (last_of (drop 1 (state_boards states))) p.0
+    && not (p.0 == master)
+    then Some (states ++ p ∷ [])
+    else None
 
 -- The states up to the word `done` are added to those so far.
 unfoldable pub more_states : ℕ → List (ℕ × State) → Words → Option (List (ℕ × State) × Words)
 more_states master states [] = None
 more_states master states (w ∷ ws) =
-    if bytes_eq w (codes "done") then Some (states, ws) else (added_state master states (placed_of w) >>= λ longer. more_states master longer ws)
+    if bytes_eq w (codes "done")
+    then Some (states, ws)
+    else (added_state master states (placed_of w) >>= λ longer. more_states master longer ws)
 
 -- ---- places in a line: a value and the words after it
 
@@ -178,7 +201,8 @@ this v (w ∷ ws) = if bytes_eq w v then Some ws else None
 
 -- The master's state, and then those of the others up to the word `done`.
 unfoldable pub states_at : ℕ → Words → Option (List (ℕ × State) × Words)
-states_at master ws = by placed_of ws >>= λ p. if p.0.0 == master then more_states master (p.0 ∷ []) p.1 else None
+states_at master ws =
+    by placed_of ws >>= λ p. if p.0.0 == master then more_states master (p.0 ∷ []) p.1 else None
 
 -- A completed access and its reply.
 abbrev pub done : Access → Option ℕ → Done
@@ -186,11 +210,14 @@ done access reply = record { access = access; reply = reply }
 
 -- The word that was read, after its address.
 abbrev pub read_as : ℕ → Words → Option Done
-read_as a ws = this (codes "=") ws >>= λ more. by (number_between 0 4294967295) more >>= λ v. ended (done (access.Read a) (Some v.0)) v.1
+read_as a ws =
+    this (codes "=") ws >>= λ more.
+    by (number_between 0 4294967295) more >>= λ v. ended (done (access.Read a) (Some v.0)) v.1
 
 -- The word that was written, after its address.
 abbrev pub written_as : ℕ → Words → Option Done
-written_as a ws = by (number_between 0 4294967295) ws >>= λ v. ended (done (access.Write a v.0) None) v.1
+written_as a ws =
+    by (number_between 0 4294967295) ws >>= λ v. ended (done (access.Write a v.0) None) v.1
 
 -- The rest of a completed access of this kind, after its address.
 abbrev pub done_with : LocalEvent → ℕ → Words → Option Done
@@ -210,21 +237,27 @@ done_at ws = by local_event_of ws >>= λ kind. done_as kind.0 kind.1
 -- What a data phase completed, up to the end of the line.
 unfoldable pub carried_at : Words → Option (Option Done)
 carried_at [] = None
-carried_at (w ∷ ws) = if bytes_eq w (codes "evict") then ended None ws else (done_at (w ∷ ws) >>= λ d. Some (Some d))
+carried_at (w ∷ ws) =
+    if bytes_eq w (codes "evict") then ended None ws else (done_at (w ∷ ws) >>= λ d. Some (Some d))
 
 -- ---- events, after their first word
 
 -- A local event.
 unfoldable pub local_at : Words → Option Event
 local_at ws =
-    by board_of ws >>= λ b. by state_of b.1 >>= λ before. this (codes "to") before.1 >>= λ to. by state_of to >>= λ after.
-    this (codes "done") after.1 >>= λ more. done_at more >>= λ d. Some (Local b.0 before.0 after.0 d)
+    by board_of ws >>= λ b.
+    by state_of b.1 >>=
+    λ before. this (codes "to") before.1 >>= λ to. by state_of to >>= λ after.
+    this (codes "done") after.1 >>=
+    λ more. done_at more >>= λ d. Some (Local b.0 before.0 after.0 d)
 
 -- A drop.
 unfoldable pub drop_at : Words → Option Event
 drop_at ws =
-    by board_of ws >>= λ b. this (codes "line") b.1 >>= λ line. by (number_between 0 4095) line >>= λ l.
-    this (codes "from") l.1 >>= λ from. by state_of from >>= λ before. ended (Drop b.0 l.0 before.0) before.1
+    by board_of ws >>=
+    λ b. this (codes "line") b.1 >>= λ line. by (number_between 0 4095) line >>= λ l.
+    this (codes "from") l.1 >>=
+    λ from. by state_of from >>= λ before. ended (Drop b.0 l.0 before.0) before.1
 
 -- A raise.
 unfoldable pub raise_at : Words → Option Event
@@ -233,24 +266,52 @@ raise_at ws = by board_of ws >>= λ b. ended (Raise b.0) b.1
 -- A grant.
 unfoldable pub grant_at : Words → Option Event
 grant_at ws =
-    by board_of ws >>= λ b. this (codes "to") b.1 >>= λ to. by board_of to >>= λ winner. this (codes "lines") winner.1 >>= λ lines.
-    by (number_between 1 255) lines >>= λ n. this (codes "rounds") n.1 >>= λ rounds. by (number_between 0 7) rounds >>= λ r.
+    by board_of ws >>= λ b.
+    this (codes "to") b.1 >>=
+    λ to. by board_of to >>= λ winner. this (codes "lines") winner.1 >>= λ lines.
+    by (number_between 1 255) lines >>=
+    λ n. this (codes "rounds") n.1 >>= λ rounds. by (number_between 0 7) rounds >>= λ r.
     ended (Grant b.0 winner.0 n.0 r.0) r.1
 
 -- The connect phase of a transaction.
 unfoldable pub connect_at : Words → Option Event
 connect_at ws =
-    by board_of ws >>= λ b. by bus_event_of b.1 >>= λ event. this (codes "line") event.1 >>= λ line. by (number_between 0 4095) line >>= λ l.
-    this (codes "to") l.1 >>= λ to. by outcome_of to >>= λ outcome. this (codes "answers") outcome.1 >>= λ more. answers_at more >>= λ answers.
-    Some (Connect (record { master = b.0; event = event.0; line = l.0; outcome = outcome.0; answers = answers }))
+    by board_of ws >>= λ b.
+    by bus_event_of b.1 >>= λ event.
+    this (codes "line") event.1 >>= λ line. by (number_between 0 4095) line >>= λ l.
+    this (codes "to") l.1 >>=
+    λ to.
+    by outcome_of to >>= λ outcome.
+    this (codes "answers") outcome.1 >>= λ more. answers_at more >>= λ answers.
+    Some (Connect (record {
+      master = b.0;
+      event = event.0;
+      line = l.0;
+      outcome = outcome.0;
+      answers = answers;
+    }))
 
 -- The data phase of a transaction.
 unfoldable pub data_at : Words → Option Event
 data_at ws =
-    by board_of ws >>= λ b. by bus_event_of b.1 >>= λ event. this (codes "line") event.1 >>= λ line. by (number_between 0 4095) line >>= λ l.
-    this (codes "from") l.1 >>= λ from. by source_of from >>= λ source. this (codes "into") source.1 >>= λ into. by takers_of into >>= λ takers.
-    this (codes "states") takers.1 >>= λ more. states_at b.0 more >>= λ states. carried_at states.1 >>= λ d.
-    Some (DataPhase (record { master = b.0; event = event.0; line = l.0; source = source.0; takers = takers.0; states = states.0; done = d }))
+    by board_of ws >>= λ b.
+    by bus_event_of b.1 >>= λ event.
+    this (codes "line") event.1 >>= λ line. by (number_between 0 4095) line >>= λ l.
+    this (codes "from") l.1 >>=
+    λ from.
+    by source_of from >>=
+    λ source. this (codes "into") source.1 >>= λ into. by takers_of into >>= λ takers.
+    this (codes "states") takers.1 >>=
+    λ more. states_at b.0 more >>= λ states. carried_at states.1 >>= λ d.
+    Some (DataPhase (record {
+      master = b.0;
+      event = event.0;
+      line = l.0;
+      source = source.0;
+      takers = takers.0;
+      states = states.0;
+      done = d;
+    }))
 
 -- The event that these words spell.
 unfoldable pub event_at : Words → Option Event

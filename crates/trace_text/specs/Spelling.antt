@@ -29,7 +29,8 @@ signals_text r = mark r.ch (codes "+CH") ++ (mark r.di (codes "+DI") ++ mark r.s
 
 -- A board, the state that it answers with, and its signals, as `1=O+CH+DI`.
 abbrev pub answer_word : Answer → List ℕ
-answer_word a = decimal a.board ++ (codes "=" ++ (state_word a.action.result ++ signals_text a.action.response))
+answer_word a =
+    decimal a.board ++ (codes "=" ++ (state_word a.action.result ++ signals_text a.action.response))
 
 -- The answers, or that there are none.
 abbrev pub answers_words : List Answer → Words
@@ -76,18 +77,21 @@ carried_words (Some d) = done_words d
 -- The words of an event.
 abbrev pub event_words : Event → Words
 event_words (Local b before after done) =
-    codes "local" ∷ decimal b ∷ state_word before ∷ codes "to" ∷ state_word after ∷ codes "done" ∷ done_words done
+    codes "local" ∷ decimal b ∷ state_word before ∷ codes "to" ∷ state_word after ∷ codes "done"
+    ∷ done_words done
 event_words (Drop b l before) =
     codes "drop" ∷ decimal b ∷ codes "line" ∷ decimal l ∷ codes "from" ∷ state_word before ∷ []
 event_words (Raise b) = codes "raise" ∷ decimal b ∷ []
 event_words (Grant by winner lines rounds) =
-    codes "grant" ∷ decimal by ∷ codes "to" ∷ decimal winner ∷ codes "lines" ∷ decimal lines ∷ codes "rounds" ∷ decimal rounds ∷ []
+    codes "grant" ∷ decimal by ∷ codes "to" ∷ decimal winner ∷ codes "lines" ∷ decimal lines
+    ∷ codes "rounds" ∷ decimal rounds ∷ []
 event_words (Connect c) =
     codes "connect" ∷ decimal c.master ∷ bus_event_word c.event ∷ codes "line" ∷ decimal c.line
     ∷ codes "to" ∷ outcome_word c.outcome ∷ codes "answers" ∷ answers_words c.answers
 event_words (DataPhase d) =
     codes "data" ∷ decimal d.master ∷ bus_event_word d.event ∷ codes "line" ∷ decimal d.line
-    ∷ codes "from" ∷ source_word d.source ∷ codes "into" ∷ takers_text (taker_parts d.takers.memory d.takers.boards)
+    ∷ codes "from" ∷ source_word d.source ∷ codes "into"
+    ∷ takers_text (taker_parts d.takers.memory d.takers.boards)
     ∷ codes "states" ∷ (map placed_word d.states ++ (codes "done" ∷ carried_words d.done))
 
 -- The line of an event, without its line feed.

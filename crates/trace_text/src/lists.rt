@@ -16,10 +16,12 @@ fn place_of(board: BoardNo) -> u8
     board.0
 }
 
-/// Adds the answer of a word, where its board is above the last one, and gives its board as the last.
+/// Adds the answer of a word, where its board is above the last one, and gives its board as the
+/// last.
 fn add_answer(answers: &mut Answers, last: u8, word: &[u8]) -> Option<u8>
     requires { last ≡ last_of (answer_boards answers.old) }
-    ensures added { MatchOption result (added_answer answers.old (answer_of word.now) ≡ None) (λ _. added_answer answers.old (answer_of word.now) ≡ Some answers.new) }
+    ensures added { MatchOption result (added_answer answers.old (answer_of word.now) ≡ None)
+        (λ _. added_answer answers.old (answer_of word.now) ≡ Some answers.new) }
     ensures last { IfSome result (λ n. n ≡ last_of (answer_boards answers.new)) }
 {
     let Some(next) = answer(word) else {
@@ -36,7 +38,8 @@ fn add_answer(answers: &mut Answers, last: u8, word: &[u8]) -> Option<u8>
 /// Adds the answers of all words that are left.
 fn add_answers(answers: &mut Answers, last: u8, line: &mut Pieces) -> Option<()>
     requires { last ≡ last_of (answer_boards answers.old) }
-    ensures { MatchOption result (more_answers answers.old line.old ≡ None) (λ _. more_answers answers.old line.old ≡ Some answers.new) }
+    ensures { MatchOption result (more_answers answers.old line.old ≡ None)
+        (λ _. more_answers answers.old line.old ≡ Some answers.new) }
 {
     let mut last = last;
     while let Some(word) = line.take() {
@@ -72,13 +75,14 @@ pub fn answers(line: &mut Pieces) -> Option<Answers>
     Some(answers)
 }
 
-/// Adds the state of a word, where its board is another than the master and above the last one of the others, and gives
-/// its board as the last.
+/// Adds the state of a word, where its board is another than the master and above the last one of
+/// the others, and gives its board as the last.
 fn add_state(states: &mut States, master: BoardNo, last: u8, word: &[u8]) -> Option<u8>
     requires some { 0 < length states.old }
     requires last { last ≡ last_of (drop 1 (state_boards states.old)) }
     ensures some { 0 < length states.new }
-    ensures added { MatchOption result (added_state master states.old (placed_of word.now) ≡ None) (λ _. added_state master states.old (placed_of word.now) ≡ Some states.new) }
+    ensures added { MatchOption result (added_state master states.old (placed_of word.now) ≡ None)
+        (λ _. added_state master states.old (placed_of word.now) ≡ Some states.new) }
     ensures last { IfSome result (λ n. n ≡ last_of (drop 1 (state_boards states.new))) }
 {
     let Some(next) = placed(word) else {
@@ -95,7 +99,8 @@ fn add_state(states: &mut States, master: BoardNo, last: u8, word: &[u8]) -> Opt
 /// Adds the states of all words up to `done`.
 fn add_states(states: &mut States, master: BoardNo, line: &mut Pieces) -> Option<()>
     requires { length states.old ≡ 1 }
-    ensures { MatchOption result (more_states master states.old line.old ≡ None) (λ _. more_states master states.old line.old ≡ Some (states.new, line.new)) }
+    ensures { MatchOption result (more_states master states.old line.old ≡ None)
+        (λ _. more_states master states.old line.old ≡ Some (states.new, line.new)) }
 {
     let mut last = 0;
     while let Some(word) = line.take() {

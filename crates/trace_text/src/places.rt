@@ -11,7 +11,8 @@ use journal::{Places, Takers};
 /// Adds the board of a part, where it is above the last one, and gives it as the last.
 fn add(places: &mut Places, last: u8, part: &[u8]) -> Option<u8>
     requires { last ≡ last_of places.old }
-    ensures added { MatchOption result (added_place places.old (board_of part.now) ≡ None) (λ _. added_place places.old (board_of part.now) ≡ Some places.new) }
+    ensures added { MatchOption result (added_place places.old (board_of part.now) ≡ None)
+        (λ _. added_place places.old (board_of part.now) ≡ Some places.new) }
     ensures last { IfSome result (λ n. n ≡ last_of places.new) }
 {
     let Some(next) = board(part) else {
@@ -28,7 +29,8 @@ fn add(places: &mut Places, last: u8, part: &[u8]) -> Option<u8>
 /// Adds the boards of all parts that are left.
 fn add_all(places: &mut Places, last: u8, parts: &mut Pieces) -> Option<()>
     requires { last ≡ last_of places.old }
-    ensures { MatchOption result (more_places places.old parts.old ≡ None) (λ _. more_places places.old parts.old ≡ Some places.new) }
+    ensures { MatchOption result (more_places places.old parts.old ≡ None)
+        (λ _. more_places places.old parts.old ≡ Some places.new) }
 {
     let mut last = last;
     while let Some(part) = parts.take() {

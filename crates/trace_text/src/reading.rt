@@ -332,7 +332,8 @@ pub fn read_event(line: &[u8]) -> Option<Event>
     ensures only { (e : Event) → InRange e → line.now ≡ text_of_event e → result ≡ Some e }
     ensures none { IfNone result ((e : Event) → InRange e → line.now ≢ text_of_event e) }
     // A line that was written is read again, whatever follows it.
-    ensures again { (e : Event) (rest : List ℕ) → InRange e → line.now ≡ before_first is_line_feed (line_of_event e ++ rest) → result ≡ Some e }
+    ensures again { (e : Event) (rest : List ℕ) → InRange e
+        → line.now ≡ before_first is_line_feed (line_of_event e ++ rest) → result ≡ Some e }
 {
     found(line)
 }

@@ -35,7 +35,8 @@ pub fn board(word: &[u8]) -> Option<BoardNo>
 
 /// Both sides of the one `=` of a word.
 fn sides(word: &[u8]) -> Option<(&[u8], &[u8])>
-    ensures { MatchOption result (sides_of word.now ≡ None) (λ s. sides_of word.now ≡ Some (s.0.now, s.1.now)) }
+    ensures { MatchOption result (sides_of word.now ≡ None)
+        (λ s. sides_of word.now ≡ Some (s.0.now, s.1.now)) }
 {
     let mut parts = Pieces::over(word, b'=');
     let left = parts.take()?;

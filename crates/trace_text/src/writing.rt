@@ -185,7 +185,8 @@ fn answer(text: &mut Text, answer: &Answer)
 fn each_answer(text: &mut Text, answers: &[Answer])
     requires boards { AllByRecursion (λ (a : Answer). IsBoard a.board) answers.now }
     requires room { 14 * length answers.now ≤ text.old.spare }
-    ensures bytes { text.new.bytes ≡ text.old.bytes ++ each_behind 32 (map answer_word answers.now) }
+    ensures bytes { text.new.bytes
+        ≡ text.old.bytes ++ each_behind 32 (map answer_word answers.now) }
     ensures spare { text.old.spare ≤ text.new.spare + 14 * length answers.now }
     ensures kept { KeepsRoom text.old text.new }
 {
@@ -255,7 +256,8 @@ fn led_board(text: &mut Text, lead: u8, board: BoardNo)
 fn takers(text: &mut Text, takers: &Takers)
     requires places { ArePlaces takers.now.boards }
     requires room { 55 ≤ text.old.spare }
-    ensures bytes { text.new.bytes ≡ text.old.bytes ++ 32 ∷ takers_text (taker_parts takers.now.memory takers.now.boards) }
+    ensures bytes { text.new.bytes
+        ≡ text.old.bytes ++ 32 ∷ takers_text (taker_parts takers.now.memory takers.now.boards) }
     ensures spare { text.old.spare ≤ text.new.spare + 55 }
     ensures kept { KeepsRoom text.old text.new }
 {
@@ -344,7 +346,8 @@ fn local(text: &mut Text, place: BoardNo, before: State, after: State, all: &Don
     requires board { IsBoard place }
     requires done { IsDone all.now }
     requires room { 252 ≤ text.old.spare }
-    ensures bytes { text.new.bytes ≡ text.old.bytes ++ spaced (event_words (Event.Local place before after all.now)) }
+    ensures bytes { text.new.bytes
+        ≡ text.old.bytes ++ spaced (event_words (Event.Local place before after all.now)) }
     ensures spare { text.old.spare ≤ text.new.spare + 252 }
     ensures kept { KeepsRoom text.old text.new }
 {
@@ -361,7 +364,8 @@ fn dropped(text: &mut Text, place: BoardNo, line: LineNo, before: State)
     requires board { IsBoard place }
     requires line { IsLine line }
     requires room { 252 ≤ text.old.spare }
-    ensures bytes { text.new.bytes ≡ text.old.bytes ++ spaced (event_words (Event.Drop place line before)) }
+    ensures bytes { text.new.bytes
+        ≡ text.old.bytes ++ spaced (event_words (Event.Drop place line before)) }
     ensures spare { text.old.spare ≤ text.new.spare + 252 }
     ensures kept { KeepsRoom text.old text.new }
 {
@@ -411,7 +415,8 @@ fn grant(text: &mut Text, by: BoardNo, winner: BoardNo, lines: u16, rounds: u8)
     requires lines { lines ≤ 255 }
     requires rounds { rounds ≤ 7 }
     requires room { 252 ≤ text.old.spare }
-    ensures bytes { text.new.bytes ≡ text.old.bytes ++ spaced (event_words (Event.Grant by winner lines rounds)) }
+    ensures bytes { text.new.bytes
+        ≡ text.old.bytes ++ spaced (event_words (Event.Grant by winner lines rounds)) }
     ensures spare { text.old.spare ≤ text.new.spare + 252 }
     ensures kept { KeepsRoom text.old text.new }
 {
@@ -431,7 +436,11 @@ fn heading(text: &mut Text, name: &str, master: BoardNo, event: BusEvent, line: 
     requires line { IsLine line }
     requires short { length name.now ≤ 7 }
     requires room { 24 ≤ text.old.spare }
-    ensures bytes { text.new.bytes ≡ text.old.bytes ++ (name.now ++ each_behind 32 (decimal master ∷ bus_event_word event ∷ codes "line" ∷ decimal line ∷ [])) }
+    ensures bytes { text.new.bytes
+        ≡ text.old.bytes
+        ++ (name.now
+        ++ each_behind 32
+        (decimal master ∷ bus_event_word event ∷ codes "line" ∷ decimal line ∷ [])) }
     ensures spare { text.old.spare ≤ text.new.spare + 24 }
     ensures kept { KeepsRoom text.old text.new }
 {
@@ -445,7 +454,8 @@ fn heading(text: &mut Text, name: &str, master: BoardNo, event: BusEvent, line: 
 fn connect(text: &mut Text, connected: &Connected)
     requires in_range { InRange (Event.Connect connected.now) }
     requires room { 252 ≤ text.old.spare }
-    ensures bytes { text.new.bytes ≡ text.old.bytes ++ spaced (event_words (Event.Connect connected.now)) }
+    ensures bytes { text.new.bytes
+        ≡ text.old.bytes ++ spaced (event_words (Event.Connect connected.now)) }
     ensures spare { text.old.spare ≤ text.new.spare + 252 }
     ensures kept { KeepsRoom text.old text.new }
 {
@@ -465,7 +475,8 @@ fn connect(text: &mut Text, connected: &Connected)
 fn data(text: &mut Text, all: &Carried)
     requires in_range { InRange (Event.DataPhase all.now) }
     requires room { 252 ≤ text.old.spare }
-    ensures bytes { text.new.bytes ≡ text.old.bytes ++ spaced (event_words (Event.DataPhase all.now)) }
+    ensures bytes { text.new.bytes
+        ≡ text.old.bytes ++ spaced (event_words (Event.DataPhase all.now)) }
     ensures spare { text.old.spare ≤ text.new.spare + 252 }
     ensures kept { KeepsRoom text.old text.new }
 {
@@ -479,7 +490,10 @@ fn moved(text: &mut Text, all: &Carried)
     requires source { IsSource all.now.source }
     requires places { ArePlaces all.now.takers.boards }
     requires room { 72 ≤ text.old.spare }
-    ensures bytes { text.new.bytes ≡ text.old.bytes ++ each_behind 32 (codes "from" ∷ source_word all.now.source ∷ codes "into" ∷ takers_text (taker_parts all.now.takers.memory all.now.takers.boards) ∷ []) }
+    ensures bytes { text.new.bytes
+        ≡ text.old.bytes
+        ++ each_behind 32 (codes "from" ∷ source_word all.now.source ∷ codes "into"
+        ∷ takers_text (taker_parts all.now.takers.memory all.now.takers.boards) ∷ []) }
     ensures spare { text.old.spare ≤ text.new.spare + 72 }
     ensures kept { KeepsRoom text.old text.new }
 {
@@ -495,7 +509,10 @@ fn ended(text: &mut Text, all: &Carried)
     requires states { AreStates all.now.master all.now.states }
     requires carried { IsCarried all.now.done }
     requires room { 128 ≤ text.old.spare }
-    ensures bytes { text.new.bytes ≡ text.old.bytes ++ each_behind 32 (codes "states" ∷ (map placed_word all.now.states ++ codes "done" ∷ carried_words all.now.done)) }
+    ensures bytes { text.new.bytes
+        ≡ text.old.bytes
+        ++ each_behind 32 (codes "states"
+        ∷ (map placed_word all.now.states ++ codes "done" ∷ carried_words all.now.done)) }
     ensures spare { text.old.spare ≤ text.new.spare + 128 }
     ensures kept { KeepsRoom text.old text.new }
 {
@@ -545,7 +562,9 @@ pub fn write_event(event: &Event, text: &mut Text)
     ensures spare { text.old.spare ≤ text.new.spare + 253 }
     ensures kept { KeepsRoom text.old text.new }
     // No line begins another.
-    ensures alone { (other : Event) (rest : List ℕ) → InRange other → line_of_event other ≡ line_of_event event.now ++ rest → (other ≡ event.now) × (rest ≡ []) }
+    ensures alone { (other : Event) (rest : List ℕ) → InRange other
+        → line_of_event other ≡ line_of_event event.now ++ rest
+        → (other ≡ event.now) × (rest ≡ []) }
 {
     event_text(text, event);
     text.push(b"\n");

@@ -10,9 +10,14 @@ loop-place-preserved c =
     let b = c.boards-place-end.ensures.boards in
     let t = c.loop-place-test.true in
     record {
-      answers = answers-more c.args.rack.now c.args.master c.args.line c.loop-place.place (c.loop-place.place + 1) c.args.event c.loop-place.answers c.ask.new.answers (omega arith) (add-one c.loop-place.place) i.answers e.answers;
+      answers =
+          answers-more c.args.rack.now c.args.master c.args.line c.loop-place.place (c.loop-place.place + 1)
+          c.args.event c.loop-place.answers c.ask.new.answers (omega arith) (add-one c.loop-place.place) i.answers
+          e.answers;
       few = let o = e.one in let f = i.few in omega arith;
-      fewer = fewer-more c.loop-place.place c.args.master (length c.loop-place.answers) (length c.ask.new.answers) i.fewer i.few e.one e.none;
+      fewer =
+          fewer-more c.loop-place.place c.args.master (length c.loop-place.answers) (length c.ask.new.answers) i.fewer
+          i.few e.one e.none;
       below = rw add-one e.below;
     }
 
@@ -21,4 +26,6 @@ returns c =
     let i = c.loop-place.invariant in
     let b = c.boards-place-end.ensures.boards in
     let t = c.loop-place-test.false in
-    i.answers ∙ ap (map (answer_from c.args.rack.now c.args.line c.args.event)) (holders-all c.args.rack.now c.args.master c.args.line c.loop-place.place (omega arith))
+    i.answers
+    ∙ ap (map (answer_from c.args.rack.now c.args.line c.args.event))
+    (holders-all c.args.rack.now c.args.master c.args.line c.loop-place.place (omega arith))

@@ -9,6 +9,10 @@ pub returns-clause-played : goal.returns-clause-played
 returns-clause-played c =
     let opened = c.args.machine.now in
     let mid = c.take_seeded.new.machine in
-    whole opened mid c.finish.new.machine (seeded_turns c.args.seed (length opened.setup.boards) c.args.accesses) c.requires.opening
-    (c.take_seeded.ensures ∙ ap (after_turns opened) (c.new-turns.ensures.turns ∙ ap (λ (n : ℕ). seeded_turns c.args.seed n c.args.accesses) c.boards.ensures.boards))
+    whole opened mid c.finish.new.machine (seeded_turns c.args.seed (length opened.setup.boards) c.args.accesses)
+    c.requires.opening
+    (c.take_seeded.ensures
+    ∙ ap (after_turns opened)
+    (c.new-turns.ensures.turns
+    ∙ ap (λ (n : ℕ). seeded_turns c.args.seed n c.args.accesses) c.boards.ensures.boards))
     (c.finish.ensures.machine (8 * access_count mid.setup) (omega arith))

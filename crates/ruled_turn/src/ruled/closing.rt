@@ -15,7 +15,8 @@ impl<M: Turned> Ruled<M> {
         requires seats { All (IsSeatOf M.base M.admits self.now) seats.items }
         requires all { 0 < length seats.items }
         ensures table { result.table_id ≡ self.now.table.shared.table_id }
-        ensures place { result.me ≡ (idle (Some (M.base (given self.now))) (map account_of seats.items), []) }
+        ensures place { result.me
+            ≡ (idle (Some (M.base (given self.now))) (map account_of seats.items), []) }
     {
         let last = seats.pop().unwrap();
         let BoardSeat {

@@ -18,7 +18,8 @@ fn lay<M: Turned>(alloc: Global, value: M, seats: u32) -> Result<(Ruled<M>, Plac
     requires short { length (M.entries value) < 2 ^ 49 }
     ensures ruled { IfOk result (λ r. (given r.0 ≡ value) × (seats_of r.0 ≡ seats)) }
     ensures table { IfOk result (λ r. r.1.table_id ≡ r.0.table.shared.table_id) }
-    ensures place { IfOk result (λ r. r.1.me ≡ (idle (Some (M.base value)) (fresh (M.entries value) 1 seats), [])) }
+    ensures place { IfOk result
+        (λ r. r.1.me ≡ (idle (Some (M.base value)) (fresh (M.entries value) 1 seats), [])) }
     ensures handed_back { IfErr result (λ f. f.value ≡ value) }
 {
     let Ok(mut slot) = Vec::with_capacity(alloc, 1) else {
@@ -71,7 +72,8 @@ impl<M: Turned> Ruled<M> {
         ensures given { IfOk result (λ r. given r.0 ≡ value) }
         ensures seats { IfOk result (λ r. (seats_of r.0 ≡ seats) × (length r.1.items ≡ seats)) }
         ensures own { IfOk result (λ r. All (IsSeatOf M.base M.admits r.0) r.1.items) }
-        ensures new { IfOk result (λ r. (k : ℕ) (s : _) → slice_get r.1.items k ≡ Some s → IsNew M.entries r.0 (k + 1) s) }
+        ensures new { IfOk result (λ r.
+            (k : ℕ) (s : _) → slice_get r.1.items k ≡ Some s → IsNew M.entries r.0 (k + 1) s) }
         ensures handed_back { IfErr result (λ f. f.value ≡ value) }
     {
         let Ok(mut list) = Vec::with_capacity(alloc, seats as usize) else {

@@ -46,7 +46,8 @@ impl<M: Turned> Ruled<M> {
         requires table { place.old.table_id ≡ self.now.table.shared.table_id }
         requires waits { place.old.me ≡ (waiting ticket place.old.me.0, []) }
         ensures table { (place.new.table_id ≡ place.old.table_id) × (place.new.id ≡ place.old.id) }
-        ensures place { place.new.me ≡ (with_value (M.entries result) place.old.me.0, (0, None) ∷ []) }
+        ensures place { place.new.me
+            ≡ (with_value (M.entries result) place.old.me.0, (0, None) ∷ []) }
         ensures base { place.old.me.0.base ≡ Some (M.base result) }
         ensures seen { GoesOn (seen_by place.old.me.0) (M.entries result) }
         ensures mine { mine_of place.old.me.0 ≡ of (number_of place.old.me.0) (M.entries result) }
@@ -66,12 +67,14 @@ impl<M: Turned> Ruled<M> {
     // Draws a ticket, has the value step once when its turn has come, and lets the next ticket have its turn.
     pub(super) fn step<R: Wait>(&self, rt: &R, place: &mut Place<M>, number: u32) -> M::Answer
         requires table { place.old.table_id ≡ self.now.table.shared.table_id }
-        requires rests { place.old.me ≡ (resting number (turns_of place.old.me.0) place.old.me.0, []) }
+        requires rests { place.old.me
+            ≡ (resting number (turns_of place.old.me.0) place.old.me.0, []) }
         requires turns { turns_of place.old.me.0 < 2 ^ 40 }
         requires based { place.old.me.0.base ≡ Some (M.base (given self.now)) }
         requires admitted { M.admits (M.base (given self.now)) number }
         ensures table { (place.new.table_id ≡ place.old.table_id) × (place.new.id ≡ place.old.id) }
-        ensures place { place.new.me ≡ (with_turn number (seen_by place.new.me.0) place.old.me.0, []) }
+        ensures place { place.new.me
+            ≡ (with_turn number (seen_by place.new.me.0) place.old.me.0, []) }
         ensures turn { Turns number (λ before after. M.replies (M.base (given self.now)) before number result after)
             (seen_by place.old.me.0) (mine_of place.old.me.0) (seen_by place.new.me.0) (mine_of place.new.me.0) }
     {

@@ -9,8 +9,8 @@ use crate::turned::Turned;
 use std::sync::Wait;
 
 impl<M: Turned> Ruled<M> {
-    /// Waits until it is the seat's turn, and has the value step once as the seat's number. A seat that has made 2^40
-    /// turns is spent, and neither waits nor steps.
+    /// Waits until it is the seat's turn, and has the value step once as the seat's number. A seat
+    /// that has made 2^40 turns is spent, and neither waits nor steps.
     pub fn turn<R: Wait>(&self, rt: &R, seat: &mut BoardSeat<M>) -> Result<M::Answer, Spent>
         requires { IsSeatOf M.base M.admits self.now seat.old }
 

@@ -1,5 +1,5 @@
 use Rattle.std.proofs.Common.{◌≡◌, ◌≤◌}
-use Rattle.settling.specs.Settling.{driven_below}
+use Rattle.bus_model.specs.Settling.{driven_below}
 use Rattle.arbiter.proofs.contest.driven.Given as goal
 
 abbrev pub decreases-loop-bit : goal.decreases-loop-bit

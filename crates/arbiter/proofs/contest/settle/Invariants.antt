@@ -1,5 +1,5 @@
 use Rattle.std.proofs.Common.{◌≡◌, ◌≢◌, ℕ, suc, ◌+◌, ◌-◌, ◌*◌, ◌<◌, ◌≤◌, length}
-use Rattle.settling.specs.Settling.{lines_after}
+use Rattle.bus_model.specs.Settling.{lines_after}
 use Rattle.arbiter.proofs.contest.settle.Given as goal
 
 abbrev pub invariant-loop-lines : goal.invariant-loop-lines

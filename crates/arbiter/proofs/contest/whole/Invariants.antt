@@ -1,5 +1,5 @@
 use Rattle.std.proofs.Common.{◌≡◌, take}
-use Rattle.settling.specs.Settling.{wired_lines}
+use Rattle.bus_model.specs.Settling.{wired_lines}
 use Rattle.arbiter.proofs.contest.whole.Given as goal
 
 abbrev pub invariant-loop-number : goal.invariant-loop-number

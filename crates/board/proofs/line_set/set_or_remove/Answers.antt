@@ -14,4 +14,6 @@ returns-then-holds-clause-items c =
     ∙ e ∙ sym (frames_with-held xs c.args.line c.args.state (sym c.holds.ensures ∙ c.if-holds.true))
 
 pub returns-else-holds-clause-items : goal.returns-else-holds-clause-items
-returns-else-holds-clause-items c = c.remove_all.ensures.items ∙ sym (frames_with-gone _ c.args.line c.args.state (sym c.holds.ensures ∙ c.if-holds.false))
+returns-else-holds-clause-items c =
+    c.remove_all.ensures.items
+    ∙ sym (frames_with-gone _ c.args.line c.args.state (sym c.holds.ensures ∙ c.if-holds.false))

@@ -12,7 +12,9 @@ overflow_add-frames c =
     let none : BoardSpec = record { number = 0; table = 0; shape = Plain; choose = First } in
     let shape = (get_or c.args.boards.now c.loop-board.board-index none).shape in
     let few = c.loop-board.invariant.few in
-    let most : room_of shape ≤ 256 = room-few shape (shape-at c.args.boards.now c.loop-board.board-index none c.requires.fit c.loop-board-test.true) in
+    let most : room_of shape ≤ 256 =
+    room-few shape (shape-at c.args.boards.now c.loop-board.board-index none c.requires.fit c.loop-board-test.true)
+    in
     let e = c.room-frames.ensures in
     let boards = c.requires.few in
     let here = c.loop-board-test.true in
@@ -23,9 +25,13 @@ loop-board-preserved c =
     let none : BoardSpec = record { number = 0; table = 0; shape = Plain; choose = First } in
     let shape = (get_or c.args.boards.now c.loop-board.board-index none).shape in
     let few = c.loop-board.invariant.few in
-    let most : room_of shape ≤ 256 = room-few shape (shape-at c.args.boards.now c.loop-board.board-index none c.requires.fit c.loop-board-test.true) in
+    let most : room_of shape ≤ 256 =
+    room-few shape (shape-at c.args.boards.now c.loop-board.board-index none c.requires.fit c.loop-board-test.true)
+    in
     let e = c.room-frames.ensures in
     record {
-      sum = rw e (ways-step c.args.boards.now c.loop-board.board-index _ c.loop-board.frames c.loop-board-test.true c.loop-board.invariant.sum);
+      sum =
+          rw e (ways-step c.args.boards.now c.loop-board.board-index _ c.loop-board.frames c.loop-board-test.true
+          c.loop-board.invariant.sum);
       few = omega arith;
     }

@@ -13,5 +13,6 @@ loop-preserved c =
     let long = i.long in
     record {
       long = rw e (omega arith);
-      empty = rw e (empty-push c.args.ways c.loop.sets.items s i.empty c.in_ok-set.ensures.empty c.in_ok-set.ensures.room);
+      empty =
+          rw e (empty-push c.args.ways c.loop.sets.items s i.empty c.in_ok-set.ensures.empty c.in_ok-set.ensures.room);
     }

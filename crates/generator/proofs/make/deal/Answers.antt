@@ -8,4 +8,5 @@ returns-in-Ok c =
     let scripts = c.args.scripts.now.items in
     let within = c.requires in
     let long = length-map scripts (λ v. v.items) in
-    push_access scripts c.args.index c.args.access c.index_mut.result.now c.push.new.self (omega (arith, within, long)) c.index_mut.ensures.value c.in-Ok.ensures.items
+    push_access scripts c.args.index c.args.access c.index_mut.result.now c.push.new.self (omega (arith, within, long))
+    c.index_mut.ensures.value c.in-Ok.ensures.items

@@ -10,7 +10,9 @@ returns-clause-access c = λ seed words is.
     let second = c.next_word-y.ensures.next seed (words + 1) first in
     let sum : words + 1 + 1 ≡ words + 2 = omega arith in
     c.access_of_kind.ensures
-    ∙ access_by_words _ _ _ _ _ _ (c.next_word-x.ensures.word seed words is) (c.next_word-y.ensures.word seed (words + 1) first) (c.next_word-z.ensures.word seed (words + 1 + 1) second ∙ ap (seeded_word seed) sum)
+    ∙ access_by_words _ _ _ _ _ _ (c.next_word-x.ensures.word seed words is)
+    (c.next_word-y.ensures.word seed (words + 1) first)
+    (c.next_word-z.ensures.word seed (words + 1 + 1) second ∙ ap (seeded_word seed) sum)
 
 pub returns-clause-next : goal.returns-clause-next
 returns-clause-next c = λ seed words is.

@@ -10,13 +10,15 @@ abbrev any : AnswerRow
 any = (M, Rd, M, silent)
 
 pub add_answer-requires : goal.add_answer-requires
-add_answer-requires c = answer_first_fits _ c.args.rows.now c.loop-row.row-index any c.loop-row-test.true c.loop-row.invariant.fits
+add_answer-requires c =
+    answer_first_fits _ c.args.rows.now c.loop-row.row-index any c.loop-row-test.true c.loop-row.invariant.fits
 
 pub loop-row-preserved : goal.loop-row-preserved
 loop-row-preserved c =
     let rows = c.args.rows.now in
     let i = c.loop-row.row-index in
     record {
-      table = answer_rows_step _ _ _ rows i any c.loop-row-test.true c.loop-row.invariant.table c.in_ok-add_answer.ensures;
+      table =
+          answer_rows_step _ _ _ rows i any c.loop-row-test.true c.loop-row.invariant.table c.in_ok-add_answer.ensures;
       fits = answer_rest_fits _ _ rows i any c.loop-row-test.true c.loop-row.invariant.fits c.in_ok-add_answer.ensures;
     }

@@ -5,7 +5,9 @@ use Rattle.line_pool.specs.Pools.{Pool, IsFree, IsOut}
 use Rattle.line_pool.proofs.Counts.{count_all}
 use Rattle.line_pool.proofs.pool.frames_are_free_or_out.Goals as goal
 
-either : (pool : Pool) (frame : ℕ) → frame < length pool.out → (b : Bool) → slice_index_or pool.out frame false ≡ b → IsFree pool frame ⊎ IsOut pool frame
+either :
+    (pool : Pool) (frame : ℕ) → frame < length pool.out → (b : Bool) → slice_index_or pool.out frame false ≡ b
+    → IsFree pool frame ⊎ IsOut pool frame
 either pool frame inside true e = inr (record { inside = inside; taken = e })
 either pool frame inside false e = inl (record { inside = inside; left = e })
 

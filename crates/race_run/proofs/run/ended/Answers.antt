@@ -8,7 +8,10 @@ use Rattle.race_run.proofs.run.ended.Goals as goal
 
 -- The machine after so many rounds that every script is at its end.
 module _ (c : goal.After-finish) where
-  played : c.finish.new.machine ≡ after_turns c.args.machine (repeated (8 * access_count c.args.machine.setup) (board_places c.args.machine.setup))
+  played :
+      c.finish.new.machine
+      ≡ after_turns c.args.machine
+      (repeated (8 * access_count c.args.machine.setup) (board_places c.args.machine.setup))
   played = c.finish.ensures.machine (8 * access_count c.args.machine.setup) (omega arith)
 
 pub returns-then-spent-clause-setup : goal.returns-then-spent-clause-setup
@@ -18,6 +21,7 @@ pub returns-then-spent-clause-journal : goal.returns-then-spent-clause-journal
 returns-then-spent-clause-journal c =
     let setup = c.args.machine.setup in
     record {
-      more = events_of_turns setup (configuration c.args.machine) (repeated (8 * access_count setup) (board_places setup));
+      more =
+          events_of_turns setup (configuration c.args.machine) (repeated (8 * access_count setup) (board_places setup));
       is = ap (λ (m : Machine). m.journal) (played c);
     }

@@ -15,13 +15,16 @@ returns-clause-journal g c =
     let closed = c.close-machine.result in
     further c.args.machine.journal closed.journal c.ended-machine.result.journal
     (goes_on_from c.args.machine.journal closed.journal
-    (subst (λ (m : Machine). GoesOn (made m.journal) (made closed.journal)) c.in_ok-shared.ensures.given c.close-machine.ensures.journal))
+    (subst (λ (m : Machine). GoesOn (made m.journal) (made closed.journal)) c.in_ok-shared.ensures.given
+    c.close-machine.ensures.journal))
     c.ended-machine.ensures.journal
 
 pub returns-clause-finished : goal.returns-clause-finished
 returns-clause-finished g c = go c.is_any_spent-spent.result refl
   where
-    go : (spent : Bool) → c.is_any_spent-spent.result ≡ spent → Complete c.ended-machine.result.setup (configuration c.ended-machine.result)
+    go :
+        (spent : Bool) → c.is_any_spent-spent.result ≡ spent
+        → Complete c.ended-machine.result.setup (configuration c.ended-machine.result)
     go true e = c.ended-machine.ensures.spent e
     go false e =
         let closed = c.close-machine.result in
@@ -33,13 +36,18 @@ returns-clause-finished g c = go c.is_any_spent-spent.result refl
           sound = c.close-machine.ensures.sound;
           count =
               c.in_ok-shared.ensures.seats.1
-              ∙ sym (ap (λ (s : Setup). length s.boards) (c.close-machine.ensures.setup ∙ ap (λ (m : Machine). m.setup) c.in_ok-shared.ensures.given));
+              ∙ sym (ap (λ (s : Setup). length s.boards)
+              (c.close-machine.ensures.setup ∙ ap (λ (m : Machine). m.setup) c.in_ok-shared.ensures.given));
           numbered = c.in_ok-shared.ensures.numbered;
           same = c.work_each.ensures.length;
           follows = c.work_each.ensures.later;
           known = c.close-machine.ensures.seen;
-          ended = subst (λ (s : Setup). All (λ (t : Seat). IsThrough s t ⊎ (turns t ≡ 2 ^ 40)) worked) (sym c.close-machine.ensures.setup) c.work_each.ensures.worked;
-          few = subst (λ (ts : List Seat). All (λ (t : Seat). turns t < 2 ^ 40) ts) c.as_slice.ensures.value (c.is_any_spent-spent.ensures e);
+          ended =
+              subst (λ (s : Setup). All (λ (t : Seat). IsThrough s t ⊎ (turns t ≡ 2 ^ 40)) worked)
+              (sym c.close-machine.ensures.setup) c.work_each.ensures.worked;
+          few =
+              subst (λ (ts : List Seat). All (λ (t : Seat). turns t < 2 ^ 40) ts) c.as_slice.ensures.value
+              (c.is_any_spent-spent.ensures e);
         }))
 
 pub returns-clause-steps : goal.returns-clause-steps

@@ -15,6 +15,7 @@ returns-in-Finished-clause-ended g c = λ done.
     record {
       ended =
           subst (λ (n : ℕ). IsAtEnd setup (seen after) n) (sym c.turn.ensures.number)
-          (ended setup (number before) answer (seen before) (mine before) (seen after) (mine after) c.in-Finished.is turned);
+          (ended setup (number before) answer (seen before) (mine before) (seen after) (mine after) c.in-Finished.is
+          turned);
       history = history_seen setup (number before) answer (seen before) (mine before) (seen after) (mine after) turned;
     }

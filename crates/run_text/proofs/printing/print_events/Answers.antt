@@ -10,14 +10,18 @@ returns-in-Err-clause-paged g c =
     let items = c.args.events.now in
     let at = c.loop-event.event-index in
     failed-behind (flat_map line_of_event (drop (suc at) items)) (flat_map line_of_event items) c.in-Err.failed
-    (flat_map-at line_of_event items at c.event-item.result c.loop-event-test.true c.event-item.is) c.loop-event.invariant.paged c.in-Err.ensures.paged
+    (flat_map-at line_of_event items at c.event-item.result c.loop-event-test.true c.event-item.is)
+    c.loop-event.invariant.paged c.in-Err.ensures.paged
 
 pub loop-event-preserved : goal.loop-event-preserved
 loop-event-preserved g c =
     let items = c.args.events.now in
     let at = c.loop-event.event-index in
     record {
-      paged = whole-behind c.in_default.field-0 (flat_map-more line_of_event items at c.event-item.result c.loop-event-test.true c.event-item.is) c.loop-event.invariant.paged c.in_default.ensures.paged;
+      paged =
+          whole-behind c.in_default.field-0
+          (flat_map-more line_of_event items at c.event-item.result c.loop-event-test.true c.event-item.is)
+          c.loop-event.invariant.paged c.in_default.ensures.paged;
       spelled = grind (arith, common_steps);
       in_range = grind (arith, common_steps);
       ready = c.in_default.ensures.ready;

@@ -9,13 +9,17 @@ returns-in-Err-clause-paged g c =
     let items = c.args.entries.now in
     let at = c.loop-entry.entry-index in
     failed-behind (flat_map entry_line (drop (suc at) items)) (flat_map entry_line items) c.in-Err.failed
-    (flat_map-at entry_line items at c.entry-item.result c.loop-entry-test.true c.entry-item.is) c.loop-entry.invariant.paged c.in-Err.ensures.paged
+    (flat_map-at entry_line items at c.entry-item.result c.loop-entry-test.true c.entry-item.is)
+    c.loop-entry.invariant.paged c.in-Err.ensures.paged
 
 pub loop-entry-preserved : goal.loop-entry-preserved
 loop-entry-preserved g c =
     let items = c.args.entries.now in
     let at = c.loop-entry.entry-index in
     record {
-      paged = whole-behind c.in_default.field-0 (flat_map-more entry_line items at c.entry-item.result c.loop-entry-test.true c.entry-item.is) c.loop-entry.invariant.paged c.in_default.ensures.paged;
+      paged =
+          whole-behind c.in_default.field-0
+          (flat_map-more entry_line items at c.entry-item.result c.loop-entry-test.true c.entry-item.is)
+          c.loop-entry.invariant.paged c.in_default.ensures.paged;
       ready = c.in_default.ensures.ready;
     }

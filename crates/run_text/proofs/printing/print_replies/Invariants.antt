@@ -6,6 +6,8 @@ use Rattle.run_text.proofs.printing.print_replies.Given as goal
 
 abbrev pub invariant-loop-entry : goal.invariant-loop-entry
 invariant-loop-entry g l = record {
-  paged : Pages (g.K.Sink.faults l.initial.sink) (g.K.Sink.faults l.sink) (g.K.Sink.taken l.initial.sink) (g.K.Sink.taken l.sink) l.initial.page l.page (flat_map entry_line (take l.entry-index l.entries));
+  paged :
+      Pages (g.K.Sink.faults l.initial.sink) (g.K.Sink.faults l.sink) (g.K.Sink.taken l.initial.sink)
+      (g.K.Sink.taken l.sink) l.initial.page l.page (flat_map entry_line (take l.entry-index l.entries));
   ready : IsReady l.line;
 }

@@ -13,8 +13,11 @@ returns-in-Err-clause-paged g c =
     let at = c.loop-place.place in
     let boards = c.boards-place-end.ensures.boards in
     let test = c.loop-place-test.true in
-    failed-behind (flat_map (board_replies (entries c.args.machine.now.journal)) (drop (suc at) (board_places machine.setup))) (flat_map (board_replies (entries c.args.machine.now.journal)) (board_places machine.setup)) c.in-Err.failed
-    (places-at (board_replies (entries c.args.machine.now.journal)) machine.setup.boards at (omega (arith, boards, test))) c.loop-place.invariant.paged c.in-Err.ensures.paged
+    failed-behind
+    (flat_map (board_replies (entries c.args.machine.now.journal)) (drop (suc at) (board_places machine.setup)))
+    (flat_map (board_replies (entries c.args.machine.now.journal)) (board_places machine.setup)) c.in-Err.failed
+    (places-at (board_replies (entries c.args.machine.now.journal)) machine.setup.boards at
+    (omega (arith, boards, test))) c.loop-place.invariant.paged c.in-Err.ensures.paged
 
 pub loop-place-preserved : goal.loop-place-preserved
 loop-place-preserved g c =
@@ -22,7 +25,10 @@ loop-place-preserved g c =
     let boards = c.boards-place-end.ensures.boards in
     let test = c.loop-place-test.true in
     record {
-      paged = whole-behind c.in_default.field-0 (places-more (board_replies (entries c.args.machine.now.journal)) machine.setup.boards c.loop-place.place (omega (arith, boards, test))) c.loop-place.invariant.paged c.in_default.ensures.paged;
+      paged =
+          whole-behind c.in_default.field-0
+          (places-more (board_replies (entries c.args.machine.now.journal)) machine.setup.boards c.loop-place.place
+          (omega (arith, boards, test))) c.loop-place.invariant.paged c.in_default.ensures.paged;
       ready = c.in_default.ensures.ready;
     }
 
@@ -31,4 +37,5 @@ returns-clause-paged g c =
     let machine = c.args.machine.now in
     let boards = c.boards-place-end.ensures.boards in
     let test = c.loop-place-test.false in
-    done-behind (places-all (board_replies (entries c.args.machine.now.journal)) machine.setup.boards c.loop-place.place (omega (arith, boards, test))) c.loop-place.invariant.paged
+    done-behind (places-all (board_replies (entries c.args.machine.now.journal)) machine.setup.boards c.loop-place.place
+    (omega (arith, boards, test))) c.loop-place.invariant.paged

@@ -7,6 +7,9 @@ use Rattle.run_text.proofs.run.print_all_replies.Given as goal
 
 abbrev pub invariant-loop-place : goal.invariant-loop-place
 invariant-loop-place g l = record {
-  paged : Pages (g.K.Sink.faults l.initial.sink) (g.K.Sink.faults l.sink) (g.K.Sink.taken l.initial.sink) (g.K.Sink.taken l.sink) l.initial.page l.page (replies_text (entries l.machine.journal) (take l.place (board_places l.machine.setup)));
+  paged :
+      Pages (g.K.Sink.faults l.initial.sink) (g.K.Sink.faults l.sink) (g.K.Sink.taken l.initial.sink)
+      (g.K.Sink.taken l.sink) l.initial.page l.page
+      (replies_text (entries l.machine.journal) (take l.place (board_places l.machine.setup)));
   ready : IsReady l.line;
 }

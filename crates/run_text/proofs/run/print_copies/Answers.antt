@@ -10,11 +10,15 @@ pub returns-in-Err-clause-paged : goal.returns-in-Err-clause-paged
 returns-in-Err-clause-paged g c =
     let lines = c.lines-number-end.ensures in
     let test = c.loop-number-test.true in
-    let r = numbers-at (copy_of (configuration c.args.machine.now) c.args.board) (line_count c.args.machine.now.setup) c.loop-number.number (omega (arith, lines, test)) in
+    let r = numbers-at (copy_of (configuration c.args.machine.now) c.args.board) (line_count c.args.machine.now.setup)
+    c.loop-number.number (omega (arith, lines, test)) in
     failed-behind r.0 _ c.in-Err.failed r.1 c.loop-number.invariant.paged c.in-Err.ensures.paged
 
 pub loop-number-preserved : goal.loop-number-preserved
 loop-number-preserved g c = record {
-  paged = whole-behind c.in_default.field-0 (numbers-more (copy_of (configuration c.args.machine.now) c.args.board) c.loop-number.number) c.loop-number.invariant.paged c.in_default.ensures.paged;
+  paged =
+      whole-behind c.in_default.field-0
+      (numbers-more (copy_of (configuration c.args.machine.now) c.args.board) c.loop-number.number)
+      c.loop-number.invariant.paged c.in_default.ensures.paged;
   ready = c.in_default.ensures.ready;
 }

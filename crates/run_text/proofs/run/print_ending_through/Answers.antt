@@ -12,4 +12,5 @@ returns-in-Err-print_memory-clause-paged g c =
 pub returns-clause-paged : goal.returns-clause-paged
 returns-clause-paged g c =
     both-behind c.in_default.field-0 _ c.in_default.ensures.paged
-    (both-behind c.in_default-print_memory.field-0 _ c.in_default-print_memory.ensures.paged c.print_all_copies.ensures.paged)
+    (both-behind c.in_default-print_memory.field-0 _ c.in_default-print_memory.ensures.paged
+    c.print_all_copies.ensures.paged)

@@ -12,4 +12,5 @@ returns-in-Err-print_end-clause-paged g c =
 pub returns-clause-paged : goal.returns-clause-paged
 returns-clause-paged g c =
     both-behind c.in_default.field-0 _ c.in_default.ensures.paged
-    (both-behind c.in_default-print_end.field-0 _ c.in_default-print_end.ensures.paged c.print_ending_through.ensures.paged)
+    (both-behind c.in_default-print_end.field-0 _ c.in_default-print_end.ensures.paged
+    c.print_ending_through.ensures.paged)

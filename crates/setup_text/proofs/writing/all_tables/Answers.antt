@@ -9,8 +9,12 @@ loop-table-preserved c =
     let i = c.loop-table.table-index in
     let t = c.table-item.result in
     record {
-      bytes = table_more c.args.text.now.bytes c.loop-table.text.bytes c.append_table.new.text.bytes xs i t c.loop-table-test.true c.table-item.is c.loop-table.invariant.bytes c.append_table.ensures.written;
+      bytes =
+          table_more c.args.text.now.bytes c.loop-table.text.bytes c.append_table.new.text.bytes xs i t
+          c.loop-table-test.true c.table-item.is c.loop-table.invariant.bytes c.append_table.ensures.written;
       room = omega arith;
       spare = omega arith;
-      whole = all_more IsWhole xs i t c.loop-table-test.true c.table-item.is c.loop-table.invariant.whole c.append_table.ensures.whole;
+      whole =
+          all_more IsWhole xs i t c.loop-table-test.true c.table-item.is c.loop-table.invariant.whole
+          c.append_table.ensures.whole;
     }

@@ -16,13 +16,20 @@ loop-addr-preserved c =
     let x = get_or xs i 0 in
     elim c.if-value-ne0.branch [
       | then-value-ne0 w ↦ record {
-        bytes = word_more old bytes c.if-value-ne0.text.bytes xs i x c.loop-addr-test.true (get_or_default xs i 0 x c.loop-addr-test.true) c.loop-addr.invariant.bytes
-            (ap (λ (t : Written). t.bytes) w.text-is ∙ (w.line_of_two.ensures.bytes ∙ (ap (λ (v : ℕ). bytes ++ line_bytes (word_row (i, v))) w.from.ensures ∙ some_word bytes i x (ne_eqb _ _ w.if-value-ne0.true))));
+        bytes =
+            word_more old bytes c.if-value-ne0.text.bytes xs i x c.loop-addr-test.true
+            (get_or_default xs i 0 x c.loop-addr-test.true) c.loop-addr.invariant.bytes
+            (ap (λ (t : Written). t.bytes) w.text-is
+            ∙ (w.line_of_two.ensures.bytes
+            ∙ (ap (λ (v : ℕ). bytes ++ line_bytes (word_row (i, v))) w.from.ensures
+            ∙ some_word bytes i x (ne_eqb _ _ w.if-value-ne0.true))));
         room = omega (arith, ap (λ (t : Written). t.spare) w.text-is);
         spare = omega (arith, ap (λ (t : Written). t.spare) w.text-is);
       }
       | else-value-ne0 w ↦ record {
-        bytes = word_more old bytes c.if-value-ne0.text.bytes xs i x c.loop-addr-test.true (get_or_default xs i 0 x c.loop-addr-test.true) c.loop-addr.invariant.bytes
+        bytes =
+            word_more old bytes c.if-value-ne0.text.bytes xs i x c.loop-addr-test.true
+            (get_or_default xs i 0 x c.loop-addr-test.true) c.loop-addr.invariant.bytes
             (ap (λ (t : Written). t.bytes) w.text-is ∙ no_word bytes i x (eq-eqb _ _ w.if-value-ne0.false));
         room = omega (arith, ap (λ (t : Written). t.spare) w.text-is);
         spare = omega (arith, ap (λ (t : Written). t.spare) w.text-is);

@@ -5,5 +5,6 @@ use Rattle.table_check.proofs.checking.add_all_missing.Goals as goal
 
 pub loop-state-preserved : goal.loop-state-preserved
 loop-state-preserved c =
-    states_more (missing_faults c.args.table.now) c.args.states.now c.loop-state.state-index M c.args.faults.now.items c.loop-state.faults.items c.add_missing_of_state.new.faults.items
+    states_more (missing_faults c.args.table.now) c.args.states.now c.loop-state.state-index M c.args.faults.now.items
+    c.loop-state.faults.items c.add_missing_of_state.new.faults.items
     c.loop-state-test.true c.loop-state.invariant c.in_ok-add_missing_of_state.ensures

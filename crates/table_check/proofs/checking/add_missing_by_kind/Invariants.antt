@@ -5,4 +5,7 @@ use Rattle.table_check.specs.Accepted.{missing_faults}
 use Rattle.table_check.proofs.checking.add_missing_by_kind.Given as goal
 
 abbrev pub invariant-loop-event : goal.invariant-loop-event
-invariant-loop-event l = l.faults.items ≡ l.initial.faults.items ++ flat_map (λ event. missing_faults l.table (Cell.Local l.state event)) (take l.event-index l.events)
+invariant-loop-event l =
+    l.faults.items
+    ≡ l.initial.faults.items
+    ++ flat_map (λ event. missing_faults l.table (Cell.Local l.state event)) (take l.event-index l.events)

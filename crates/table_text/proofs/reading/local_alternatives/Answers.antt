@@ -10,19 +10,33 @@ use Rattle.table_text.proofs.reading.local_alternatives.Goals as goal
 pub returns-in_err-action-clause-value : goal.returns-in_err-action-clause-value
 returns-in_err-action-clause-value c =
     let p = err_from_is_err_and c.from_residual.result c.from_residual.ensures.1 in
-    rw (p.1, p.2) (fails outcome_of local_at (λ t a. with_local t c.args.state c.args.event a) c.loop.counter c.loop.missing c.loop.table c.loop.scan.words c.in_err-action.field-0.0 c.args.scan.now.line _ c.loop-test.true (rw c.loop.invariant.stays.line at c.in_err-action.ensures.value) c.loop.invariant.left)
+    rw (p.1, p.2) (fails outcome_of local_at (λ t a. with_local t c.args.state c.args.event a) c.loop.counter
+    c.loop.missing c.loop.table c.loop.scan.words c.in_err-action.field-0.0 c.args.scan.now.line _
+    c.loop-test.true (rw c.loop.invariant.stays.line at c.in_err-action.ensures.value) c.loop.invariant.left)
 
 pub returns-then-not-more-clause-value : goal.returns-then-not-more-clause-value
 returns-then-not-more-clause-value c =
-    sym c.loop.invariant.left ∙ (last outcome_of local_at (λ t a. with_local t c.args.state c.args.event a) c.loop.counter c.loop.missing c.loop.table c.loop.scan.words c.in_ok-action.action c.local_action.new.scan.words c.loop-test.true (rw c.if-not-more.true at c.in_ok-action.ensures.value) ∙ ap Ok (sym c.in-Ok.ensures.ok))
+    sym c.loop.invariant.left
+    ∙ (last outcome_of local_at (λ t a. with_local t c.args.state c.args.event a) c.loop.counter c.loop.missing
+    c.loop.table c.loop.scan.words c.in_ok-action.action c.local_action.new.scan.words c.loop-test.true
+    (rw c.if-not-more.true at c.in_ok-action.ensures.value) ∙ ap Ok (sym c.in-Ok.ensures.ok))
 
 pub loop-preserved : goal.loop-preserved
 loop-preserved c = record {
-  left = rw c.in-Ok.ensures.ok (sym (one_more outcome_of local_at (λ t a. with_local t c.args.state c.args.event a) c.loop.counter c.loop.missing c.loop.table c.loop.scan.words c.in_ok-action.action c.local_action.new.scan.words c.loop-test.true (rw c.if-not-more.false at c.in_ok-action.ensures.value)) ∙ c.loop.invariant.left);
-  count = ap length c.in-Ok.ensures.cell ∙ (length_push (locals_of c.loop.table c.args.state c.args.event) c.in_ok-action.action ∙ omega arith);
+  left =
+      rw c.in-Ok.ensures.ok (sym (one_more outcome_of local_at (λ t a. with_local t c.args.state c.args.event a)
+      c.loop.counter c.loop.missing c.loop.table c.loop.scan.words c.in_ok-action.action
+      c.local_action.new.scan.words c.loop-test.true
+      (rw c.if-not-more.false at c.in_ok-action.ensures.value)) ∙ c.loop.invariant.left);
+  count =
+      ap length c.in-Ok.ensures.cell
+      ∙ (length_push (locals_of c.loop.table c.args.state c.args.event) c.in_ok-action.action ∙ omega arith);
   stays = search rules;
 }
 
 pub returns-clause-value : goal.returns-clause-value
 returns-clause-value c =
-    subst (λ (r : _). Fails c.no_local_room.result c.args.scan.now.line r) (sym (full outcome_of local_at (λ t a. with_local t c.args.state c.args.event a) c.loop.counter c.loop.missing c.loop.table c.loop.scan.words c.loop-test.false) ∙ c.loop.invariant.left) (rw c.loop.invariant.stays.line at c.no_local_room.ensures.value)
+    subst (λ (r : _). Fails c.no_local_room.result c.args.scan.now.line r)
+    (sym (full outcome_of local_at (λ t a. with_local t c.args.state c.args.event a) c.loop.counter c.loop.missing
+    c.loop.table c.loop.scan.words c.loop-test.false) ∙ c.loop.invariant.left)
+    (rw c.loop.invariant.stays.line at c.no_local_room.ensures.value)

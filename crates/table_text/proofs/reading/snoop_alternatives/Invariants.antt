@@ -6,7 +6,9 @@ use Rattle.table_text.proofs.reading.snoop_alternatives.Given as goal
 
 abbrev pub invariant-loop : goal.invariant-loop
 invariant-loop l = record {
-  left : alternatives state_of snoop_at (λ t a. with_answer t l.state l.event a) (16 - l.counter) l.missing l.table l.scan.words ≡ snoop_alternatives l.state l.event l.initial.table l.initial.scan.words;
+  left :
+      alternatives state_of snoop_at (λ t a. with_answer t l.state l.event a) (16 - l.counter) l.missing l.table
+      l.scan.words ≡ snoop_alternatives l.state l.event l.initial.table l.initial.scan.words;
   count : length (answers_of l.table l.state l.event) ≡ l.counter;
   stays : StaysOnLine l.initial.scan l.scan;
 }

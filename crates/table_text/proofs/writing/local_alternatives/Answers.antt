@@ -11,5 +11,9 @@ use Rattle.table_text.proofs.writing.local_alternatives.Goals as goal
 pub returns-clause-bytes : goal.returns-clause-bytes
 returns-clause-bytes c =
     let none = drop_end c.args.alternatives.now c.loop-action.action-index (omega arith) in
-    sym (append-nil c.loop-action.text.bytes) ∙ (ap (λ (v : List LocalAction). c.loop-action.text.bytes ++ after_words (led (c.loop-action.lead ∷ []) local_words v)) (sym none)
-    ∙ (c.loop-action.invariant.bytes ∙ ap (λ (v : Words). c.args.text.now.bytes ++ after_words v) (sym (led_is local_words (codes "=") c.args.alternatives.now c.requires.some))))
+    sym (append-nil c.loop-action.text.bytes)
+    ∙ (ap (λ (v : List LocalAction).
+    c.loop-action.text.bytes ++ after_words (led (c.loop-action.lead ∷ []) local_words v)) (sym none)
+    ∙ (c.loop-action.invariant.bytes
+    ∙ ap (λ (v : Words). c.args.text.now.bytes ++ after_words v)
+    (sym (led_is local_words (codes "=") c.args.alternatives.now c.requires.some))))

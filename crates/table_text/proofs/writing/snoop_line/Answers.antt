@@ -13,17 +13,37 @@ use Rattle.table_text.proofs.writing.snoop_line.Goals as goal
 
 pub returns-then-is_empty-clause-bytes : goal.returns-then-is_empty-clause-bytes
 returns-then-is_empty-clause-bytes c =
-    let none : length c.snoop-alternatives.result.now ≡ 0 = eqb-true _ _ (sym c.is_empty.ensures ∙ c.if-is_empty.true) in
+    let none : length c.snoop-alternatives.result.now ≡ 0 =
+    eqb-true _ _ (sym c.is_empty.ensures ∙ c.if-is_empty.true) in
     let cell = c.snoop-alternatives.ensures.cell in
-    sym (append-nil c.args.text.now.bytes) ∙ ap (λ (v : List ℕ). c.args.text.now.bytes ++ v) (sym (no_snoop_line c.args.state c.args.event (answers_of c.args.table.now c.args.state c.args.event) (ap length (sym cell) ∙ none)))
+    sym (append-nil c.args.text.now.bytes)
+    ∙ ap (λ (v : List ℕ). c.args.text.now.bytes ++ v)
+    (sym (no_snoop_line c.args.state c.args.event (answers_of c.args.table.now c.args.state c.args.event)
+    (ap length (sym cell) ∙ none)))
 
 pub returns-clause-bytes : goal.returns-clause-bytes
 returns-clause-bytes c =
-    let some : 0 < length c.snoop-alternatives.result.now = omega (arith, eqb-false _ _ (sym c.is_empty.ensures ∙ c.if-is_empty.false)) in
+    let some : 0 < length c.snoop-alternatives.result.now =
+    omega (arith, eqb-false _ _ (sym c.is_empty.ensures ∙ c.if-is_empty.false)) in
     let cell = c.snoop-alternatives.ensures.cell in
     let line = some_snoop_line c.args.state c.args.event c.snoop-alternatives.result.now some in
-    let written = line_written c.args.text.now.bytes (state_word c.args.state) (bus_event_word c.args.event) (codes "=" ∷ alternative_words snoop_words c.snoop-alternatives.result.now) in
-    let first : c.push.new.self.bytes ≡ c.args.text.now.bytes ++ state_word c.args.state = c.push.ensures.bytes ∙ ap (λ (v : List ℕ). c.args.text.now.bytes ++ v) (c.as_bytes.ensures.value ∙ c.state_text.ensures.text) in
-    let second : c.word.new.text.bytes ≡ (c.args.text.now.bytes ++ state_word c.args.state) ++ 32 ∷ bus_event_word c.args.event = c.word.ensures.bytes ∙ (ap (λ (v : List ℕ). c.push.new.self.bytes ++ 32 ∷ v) c.bus_event_text.ensures.text ∙ ap (λ (v : List ℕ). v ++ 32 ∷ bus_event_word c.args.event) first) in
-    let third = c.snoop_alternatives.ensures.bytes ∙ ap (λ (v : List ℕ). v ++ after_words (codes "=" ∷ alternative_words snoop_words c.snoop-alternatives.result.now)) second in
-    c.push-2.ensures.bytes ∙ (ap (λ (v : List ℕ). v ++ 10 ∷ []) third ∙ (written ∙ (ap (λ (v : List ℕ). c.args.text.now.bytes ++ v) (sym line) ∙ ap (λ (v : List SnoopAction). c.args.text.now.bytes ++ cells_bytes (snoop_given c.args.state c.args.event v)) cell)))
+    let written = line_written c.args.text.now.bytes (state_word c.args.state) (bus_event_word c.args.event)
+    (codes "=" ∷ alternative_words snoop_words c.snoop-alternatives.result.now) in
+    let first : c.push.new.self.bytes ≡ c.args.text.now.bytes ++ state_word c.args.state =
+    c.push.ensures.bytes
+    ∙ ap (λ (v : List ℕ). c.args.text.now.bytes ++ v) (c.as_bytes.ensures.value ∙ c.state_text.ensures.text) in
+    let second : c.word.new.text.bytes
+    ≡ (c.args.text.now.bytes ++ state_word c.args.state) ++ 32 ∷ bus_event_word c.args.event =
+    c.word.ensures.bytes
+    ∙ (ap (λ (v : List ℕ). c.push.new.self.bytes ++ 32 ∷ v) c.bus_event_text.ensures.text
+    ∙ ap (λ (v : List ℕ). v ++ 32 ∷ bus_event_word c.args.event) first) in
+    let third = c.snoop_alternatives.ensures.bytes
+    ∙ ap (λ (v : List ℕ).
+    v ++ after_words (codes "=" ∷ alternative_words snoop_words c.snoop-alternatives.result.now)) second in
+    c.push-2.ensures.bytes
+    ∙ (ap (λ (v : List ℕ). v ++ 10 ∷ []) third
+    ∙ (written
+    ∙ (ap (λ (v : List ℕ). c.args.text.now.bytes ++ v) (sym line)
+    ∙ ap (λ (v : List SnoopAction).
+    c.args.text.now.bytes ++ cells_bytes (snoop_given c.args.state c.args.event v))
+    cell)))

@@ -5,7 +5,9 @@ use Rattle.table_text.proofs.writing.snoop_lines.Given as goal
 
 abbrev pub invariant-loop-event : goal.invariant-loop-event
 invariant-loop-event l = record {
-  bytes : l.text.bytes ≡ l.initial.text.bytes ++ cells_bytes (flat_map (snoop_line l.table l.state) (take l.event-index l.events));
+  bytes :
+      l.text.bytes
+      ≡ l.initial.text.bytes ++ cells_bytes (flat_map (snoop_line l.table l.state) (take l.event-index l.events));
   room : 256 * length l.events ≤ l.text.spare + 256 * l.event-index;
   spare : l.initial.text.spare ≤ l.text.spare + 256 * l.event-index;
 }

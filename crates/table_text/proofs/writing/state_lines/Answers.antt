@@ -9,4 +9,6 @@ unfolding state_lines
 returns-clause-bytes c =
     let t = c.args.table.now in
     let s = c.args.state in
-    more_cells c.args.text.now.bytes c.local_lines.new.text.bytes c.snoop_lines.new.text.bytes (flat_map (local_line t s) local_events) (flat_map (snoop_line t s) bus_events) c.local_lines.ensures.bytes c.snoop_lines.ensures.bytes
+    more_cells c.args.text.now.bytes c.local_lines.new.text.bytes c.snoop_lines.new.text.bytes
+    (flat_map (local_line t s) local_events) (flat_map (snoop_line t s) bus_events) c.local_lines.ensures.bytes
+    c.snoop_lines.ensures.bytes

@@ -9,10 +9,16 @@ use Rattle.tally.proofs.text.write_tally.Goals as goal
 pub returns-clause-tally : goal.returns-clause-tally
 returns-clause-tally c =
     let journal = c.args.journal.now in
-    five_pieces c.args.text.now.bytes c.line.new.text.bytes c.line-2.new.text.bytes c.line-3.new.text.bytes c.event_lines.new.text.bytes c.line-4.new.text.bytes
-    (tally_line (codes "seed") c.args.n) (tally_line (codes "accesses") 100000) (tally_line (codes "events") (length journal)) (flat_map (event_line journal) bus_events) (tally_line (codes "sum") (replies_sum (entries journal)))
+    five_pieces c.args.text.now.bytes c.line.new.text.bytes c.line-2.new.text.bytes c.line-3.new.text.bytes
+    c.event_lines.new.text.bytes c.line-4.new.text.bytes
+    (tally_line (codes "seed") c.args.n) (tally_line (codes "accesses") 100000)
+    (tally_line (codes "events") (length journal)) (flat_map (event_line journal) bus_events)
+    (tally_line (codes "sum") (replies_sum (entries journal)))
     c.line.ensures.bytes
     c.line-2.ensures.bytes
     c.line-3.ensures.bytes
-    (c.event_lines.ensures.bytes ∙ ap (λ (t : List ℕ). c.line-3.new.text.bytes ++ t) (lines_by_counts journal c.connect_counts.result c.connect_counts.ensures))
-    (c.line-4.ensures.bytes ∙ ap (λ (x : ℕ). c.event_lines.new.text.bytes ++ tally_line (codes "sum") x) c.replies_sum.ensures)
+    (c.event_lines.ensures.bytes
+    ∙ ap (λ (t : List ℕ). c.line-3.new.text.bytes ++ t)
+    (lines_by_counts journal c.connect_counts.result c.connect_counts.ensures))
+    (c.line-4.ensures.bytes
+    ∙ ap (λ (x : ℕ). c.event_lines.new.text.bytes ++ tally_line (codes "sum") x) c.replies_sum.ensures)

@@ -12,4 +12,5 @@ pub returns-clause-none : goal.returns-clause-none
 returns-clause-none c = none_is c.args.line.now c.found.result c.found.ensures
 
 pub returns-clause-again : goal.returns-clause-again
-returns-clause-again c = λ e rest in_range is. c.found.ensures ∙ line_again c.args.line.now e in_range (is ∙ first_is e rest in_range)
+returns-clause-again c =
+    λ e rest in_range is. c.found.ensures ∙ line_again c.args.line.now e in_range (is ∙ first_is e rest in_range)

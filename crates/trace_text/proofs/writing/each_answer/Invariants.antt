@@ -10,7 +10,9 @@ use Rattle.trace_text.proofs.writing.each_answer.Given as goal
 abbrev pub invariant-loop-one : goal.invariant-loop-one
 invariant-loop-one l = record {
   boards : AllByRecursion (λ (a : Answer). IsBoard a.board) (drop l.one-index l.answers);
-  bytes : l.text.bytes ++ each_behind 32 (map answer_word (drop l.one-index l.answers)) ≡ l.initial.text.bytes ++ each_behind 32 (map answer_word l.answers);
+  bytes :
+      l.text.bytes ++ each_behind 32 (map answer_word (drop l.one-index l.answers))
+      ≡ l.initial.text.bytes ++ each_behind 32 (map answer_word l.answers);
   room : 14 * length l.answers ≤ l.text.spare + 14 * l.one-index;
   spare : l.initial.text.spare ≤ l.text.spare + 14 * l.one-index;
   kept : KeepsRoom l.initial.text l.text;

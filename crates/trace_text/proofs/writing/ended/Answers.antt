@@ -9,9 +9,13 @@ use Rattle.trace_text.proofs.writing.ended.Goals as goal
 
 pub states-requires-clause-boards : goal.states-requires-clause-boards
 states-requires-clause-boards c =
-    subst (λ (z : List (ℕ × State)). AllByRecursion (λ (p : ℕ × State). IsBoard p.0) z) (sym c.items.ensures.items) (states_boards c.args.all.now.master c.args.all.now.states c.requires.board c.requires.states)
+    subst (λ (z : List (ℕ × State)). AllByRecursion (λ (p : ℕ × State). IsBoard p.0) z) (sym c.items.ensures.items)
+    (states_boards c.args.all.now.master c.args.all.now.states c.requires.board c.requires.states)
 
 pub returns-clause-bytes : goal.returns-clause-bytes
 returns-clause-bytes c =
-    ended_written c.args.text.now.bytes c.word.new.text.bytes c.states.new.text.bytes c.word-2.new.text.bytes c.carried.new.text.bytes (map placed_word c.args.all.now.states) (carried_words c.args.all.now.done)
-    c.word.ensures.bytes (c.states.ensures.bytes ∙ ap (λ (z : List (ℕ × State)). c.word.new.text.bytes ++ each_behind 32 (map placed_word z)) c.items.ensures.items) c.word-2.ensures.bytes c.carried.ensures.bytes
+    ended_written c.args.text.now.bytes c.word.new.text.bytes c.states.new.text.bytes c.word-2.new.text.bytes
+    c.carried.new.text.bytes (map placed_word c.args.all.now.states) (carried_words c.args.all.now.done)
+    c.word.ensures.bytes (c.states.ensures.bytes
+    ∙ ap (λ (z : List (ℕ × State)). c.word.new.text.bytes ++ each_behind 32 (map placed_word z))
+    c.items.ensures.items) c.word-2.ensures.bytes c.carried.ensures.bytes

@@ -5,9 +5,14 @@ use Rattle.trace_text.proofs.writing.takers.Goals as goal
 
 pub returns-then-takers-clause-bytes : goal.returns-then-takers-clause-bytes
 returns-then-takers-clause-bytes c =
-    memory_written c.args.text.now.bytes c.push.new.self.bytes c.boards.new.text.bytes c.args.takers.now.memory c.args.takers.now.boards c.items-places.result.now c.if-takers.true c.items-places.ensures.items c.push.ensures.bytes c.boards.ensures.bytes
+    memory_written c.args.text.now.bytes c.push.new.self.bytes c.boards.new.text.bytes c.args.takers.now.memory
+    c.args.takers.now.boards c.items-places.result.now c.if-takers.true c.items-places.ensures.items
+    c.push.ensures.bytes c.boards.ensures.bytes
 
 pub returns-else-is_empty-clause-bytes : goal.returns-else-is_empty-clause-bytes
 returns-else-is_empty-clause-bytes c =
-    let some : 0 < length c.items-places.result.now = omega (arith, eqb-false _ _ (sym c.is_empty.ensures ∙ c.if-is_empty.false)) in
-    boards_written c.args.text.now.bytes c.boards-else-is_empty.new.text.bytes c.args.takers.now.memory c.args.takers.now.boards c.items-places.result.now c.if-takers.false c.items-places.ensures.items some c.boards-else-is_empty.ensures.bytes
+    let some : 0 < length c.items-places.result.now =
+    omega (arith, eqb-false _ _ (sym c.is_empty.ensures ∙ c.if-is_empty.false)) in
+    boards_written c.args.text.now.bytes c.boards-else-is_empty.new.text.bytes c.args.takers.now.memory
+    c.args.takers.now.boards c.items-places.result.now c.if-takers.false c.items-places.ensures.items some
+    c.boards-else-is_empty.ensures.bytes

@@ -7,6 +7,8 @@ pub words-requires-3 : goal.words-requires-3
 words-requires-3 g c =
     let rack = c.put_word.new.self in
     let e = c.in_ok-rack.ensures in
-    let some : 1 ≤ length rack.rows = rw (c.put_word.ensures, c.put_line-2.ensures, c.set_state.ensures, c.put_line.ensures, e.1) (omega arith) in
-    let one : all_ways rack.specs ≡ 1 = rw (c.put_word.ensures, c.put_line-2.ensures, c.set_state.ensures, c.put_line.ensures, e.0) refl in
+    let some : 1 ≤ length rack.rows =
+    rw (c.put_word.ensures, c.put_line-2.ensures, c.set_state.ensures, c.put_line.ensures, e.1) (omega arith) in
+    let one : all_ways rack.specs ≡ 1 =
+    rw (c.put_word.ensures, c.put_line-2.ensures, c.set_state.ensures, c.put_line.ensures, e.0) refl in
     one-frame c.pool.result.now rack.rows c.pool.ensures.rows some (c.pool.ensures.all ∙ one)

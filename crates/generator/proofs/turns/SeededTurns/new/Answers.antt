@@ -18,4 +18,5 @@ returns-clause-places c =
     ap (λ (g : Lcg). turns_of g c.args.boards (16 * c.from.result)) c.seeded.ensures
     ∙ ap (λ (a : ℕ). turns_of (generator_after c.args.n 0) c.args.boards (16 * a)) c.from.ensures
     ∙ turns_by_words c.args.n c.args.boards (16 * c.args.accesses) 0 in
-    subst (λ (ts : List ℕ). AllByRecursion (λ place. (1 ≤ place) × (place ≤ c.args.boards)) ts) (sym e) (turns_are_places c.args.n c.args.boards (16 * c.args.accesses) 0 c.requires)
+    subst (λ (ts : List ℕ). AllByRecursion (λ place. (1 ≤ place) × (place ≤ c.args.boards)) ts) (sym e)
+    (turns_are_places c.args.n c.args.boards (16 * c.args.accesses) 0 c.requires)

@@ -13,5 +13,8 @@ invariant_of-self c =
     let len = c.self.inside.len in
     let within : len < length items = grind (arith, common_steps) in
     let room : len + 1 ≤ 15 = grind (arith, common_steps) in
-    let above : IsAboveLast (answer_boards (take len items)) c.args.item.board = rw c.self.view_is c.requires.above in
-    (room, rw (take_more_set items len c.args.item within) (rising-map-push (λ (a : Answer). a.board) (take len items) c.args.item c.self.invariant.1 above))
+    let above : IsAboveLast (answer_boards (take len items)) c.args.item.board = rw c.self.view_is c.requires.above in (
+      room,
+      rw (take_more_set items len c.args.item within)
+          (rising-map-push (λ (a : Answer). a.board) (take len items) c.args.item c.self.invariant.1 above),
+    )

@@ -11,5 +11,8 @@ invariant_of-self c =
     let len = c.self.inside.len in
     let within : len < length items = grind (arith, common_steps) in
     let room : len + 1 ≤ 16 = grind (arith, common_steps) in
-    let above : IsAboveLast (take len items) c.args.item = rw c.self.view_is c.requires.above in
-    (room, rw (take_more_set items len c.args.item within) (rising-push (take len items) c.args.item c.self.invariant.1 above))
+    let above : IsAboveLast (take len items) c.args.item = rw c.self.view_is c.requires.above in (
+      room,
+      rw (take_more_set items len c.args.item within)
+          (rising-push (take len items) c.args.item c.self.invariant.1 above),
+    )

@@ -13,5 +13,8 @@ invariant_of-self c =
     let len = c.self.inside.len in
     let within : len < length items = grind (arith, common_steps) in
     let room : len + 1 ≤ 16 = grind (arith, common_steps) in
-    let above : IsAboveRest (state_boards (take len items)) c.args.item.0 = rw c.self.view_is c.requires.above in
-    (room, rw (take_more_set items len c.args.item within) (rises-map-push (λ (s : ℕ × State). s.0) (take len items) c.args.item c.self.invariant.1 above))
+    let above : IsAboveRest (state_boards (take len items)) c.args.item.0 = rw c.self.view_is c.requires.above in (
+      room,
+      rw (take_more_set items len c.args.item within)
+          (rises-map-push (λ (s : ℕ × State). s.0) (take len items) c.args.item c.self.invariant.1 above),
+    )

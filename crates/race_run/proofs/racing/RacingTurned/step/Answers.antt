@@ -10,4 +10,5 @@ returns-clause-entries c = grows c.args.self.now.machine c.args.who c.advance.ne
 pub returns-clause-answer : goal.returns-clause-answer
 returns-clause-answer c =
     let before = c.journal-journal.ensures in
-    is_turn c.args.self.now.machine c.args.who c.advance.new.self c.advance.result before.setup before.accepted before.sound c.advance.ensures.run c.advance.ensures.told c.advance.ensures.machine
+    is_turn c.args.self.now.machine c.args.who c.advance.new.self c.advance.result before.setup before.accepted
+    before.sound c.advance.ensures.run c.advance.ensures.told c.advance.ensures.machine

@@ -1,8 +1,8 @@
 use Rattle.std.proofs.Common.{sym, ap, ◌∙◌, ◌++◌}
 use Rattle.bus_model.specs.Setup.{Setup}
 use Rattle.backplane.specs.Machine.{Machine, opened}
-use Rattle.trace_lines.specs.Replaying.{Place, fed, left_by}
-use Rattle.trace_lines.proofs.Fed.{left_joined}
+use Rattle.replayer.specs.Traces.{Place, fed, left_by}
+use Rattle.replayer.proofs.Fed.{left_joined}
 use Rattle.replayer.specs.Replaying.{step}
 use Rattle.replayer.proofs.pieces.Replay.feed.Goals as goal
 

@@ -6,4 +6,5 @@ use Rattle.setup.proofs.parts.Setup.accesses.Given as goal
 
 -- the accesses of the scripts so far
 abbrev pub invariant-loop-script : goal.invariant-loop-script
-invariant-loop-script l = l.accesses ≡ sum_by (λ (script : Vec Access Global). length script.items) (take l.script-index l.script-items)
+invariant-loop-script l =
+    l.accesses ≡ sum_by (λ (script : Vec Access Global). length script.items) (take l.script-index l.script-items)

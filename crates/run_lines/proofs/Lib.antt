@@ -1,3 +1,0 @@
-pub mod Settled
-pub mod Named
-pub mod Spelled

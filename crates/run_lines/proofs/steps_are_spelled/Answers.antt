@@ -1,6 +1,0 @@
--- The law is proved over the definitions alone.
-use Rattle.run_lines.proofs.Spelled
-use Rattle.run_lines.proofs.steps_are_spelled.Goals as goal
-
-pub returns : goal.returns
-returns c = Spelled.steps_are_spelled

@@ -1,0 +1,6 @@
+-- The law is proved over the definitions alone.
+use Rattle.run_text.proofs.Spelled
+use Rattle.run_text.proofs.spelling.runs_are_spelled.Goals as goal
+
+pub returns : goal.returns
+returns c = Spelled.runs_are_spelled

@@ -1,4 +1,0 @@
-pub mod Lines
-pub mod Replaying
-pub mod Reader
-pub mod Printed
