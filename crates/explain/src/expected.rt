@@ -1,7 +1,7 @@
 //! The line that the machine has in place of one that is no step.
 //!
-//! What may stand there is tried: each line that is likely is read as an event and played, and the first that the machine
-//! takes is shown.
+//! What may stand there is tried: each line that is likely is read as an event and played, and the
+//! first that the machine takes is shown.
 
 use crate::reader::{Reader, Word};
 use crate::refusals::say_choice;

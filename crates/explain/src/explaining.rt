@@ -1,7 +1,7 @@
 //! The explanations, each added to what a command printed.
 //!
-//! Each call leaves what stands in the text, and adds to it: a whole explanation, or nothing where memory lacks or where
-//! nothing is refused.
+//! Each call leaves what stands in the text, and adds to it: a whole explanation, or nothing where
+//! memory lacks or where nothing is refused.
 
 ghost use Rattle.std.specs.Prelude.{◌≡◌, OnErr};
 ghost use Rattle.explain.specs.Appends.{Appends};

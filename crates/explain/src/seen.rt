@@ -1,4 +1,5 @@
-//! What is seen of a machine where a trace stops: its boards, what they are to do next, and who has the bus.
+//! What is seen of a machine where a trace stops: its boards, what they are to do next, and who has
+//! the bus.
 
 use backplane::Machine;
 use bus_signals::{Access, BoardNo, LineNo};

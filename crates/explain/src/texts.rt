@@ -38,7 +38,7 @@ fn explanation(alloc: Global, read: Result<(), Stop>) -> Result<Text, NoMemory> 
 }
 
 /// Whether a text is short enough to be read.
-fn is_short(bytes: &[u8]) -> bool
+pub fn is_short(bytes: &[u8]) -> bool
     ensures { IsTrue result → length bytes.now < 2 ^ 31 }
 {
     bytes.len() < 2_147_483_648

@@ -6,6 +6,7 @@ use crate::refusals::{say_connect, say_raise};
 use crate::replayed::{Stopped, follow};
 use crate::say::{counted, say, say_access};
 use crate::seen::Seen;
+use crate::texts::is_short;
 use backplane::assemble;
 use bus_signals::BoardNo;
 use fb_text::Text;
@@ -95,9 +96,10 @@ fn say_unfinished(text: &mut Text, seen: &Seen, board: BoardNo) -> Result<(), No
     say(text, ".\n")
 }
 
-/// The machine of a setup, with the setup. There is none where the text is no setup whose tables are accepted.
+/// The machine of a setup, with the setup. There is none where the text is no setup whose tables
+/// are accepted.
 fn opened(alloc: Global, bytes: &[u8]) -> Option<Seen> {
-    if bytes.len() >= 2_147_483_648 {
+    if !is_short(bytes) {
         return None;
     }
     let Ok(setup) = read_setup(alloc, bytes) else {
