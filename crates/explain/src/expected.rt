@@ -113,14 +113,20 @@ fn takes(machine: &mut Machine, line: &[u8]) -> bool {
     }
 }
 
-/// Appends the reply of an access, where it is a read of this copy.
-fn say_reply(text: &mut Text, access: Access, words: &[u32]) -> Result<(), NoMemory> {
-    if let Access::Read(addr) = access {
-        if let Some(word) = words.get(usize::from(addr.offset())) {
-            return counted(text, " = ", u64::from(*word), "");
-        }
+/// Appends the reply of an access, where it reads a word of the board's copy.
+fn say_reply(
+    text: &mut Text,
+    seen: &Seen,
+    board: BoardNo,
+    access: &Access,
+) -> Result<(), NoMemory> {
+    let Access::Read(addr) = access else {
+        return Ok(());
+    };
+    match seen.word(board, *addr) {
+        Some(word) => counted(text, " = ", u64::from(word), ""),
+        None => Ok(()),
     }
-    Ok(())
 }
 
 /// The line of an access that a board does by itself, to this state.
@@ -128,21 +134,20 @@ fn local_line(
     alloc: Global,
     seen: &Seen,
     board: BoardNo,
-    access: Access,
+    access: &Access,
     after: State,
 ) -> Result<Text, NoMemory> {
     let mut line = Text::new(alloc);
-    let (before, words) = match seen.copy(board, access.addr().line()) {
-        Some((state, words)) => (state, words),
-        None => (State::I, [0; 4]),
-    };
     counted(&mut line, "local ", u64::from(board.0), " ")?;
-    say(&mut line, state_text(before))?;
+    say(
+        &mut line,
+        state_text(seen.state(board, access.addr().line())),
+    )?;
     say(&mut line, " to ")?;
     say(&mut line, state_text(after))?;
     say(&mut line, " done ")?;
     say_access(&mut line, access)?;
-    say_reply(&mut line, access, &words)?;
+    say_reply(&mut line, seen, board, access)?;
     Ok(line)
 }
 
@@ -151,7 +156,7 @@ fn say_not_local(
     text: &mut Text,
     seen: &Seen,
     board: BoardNo,
-    access: Access,
+    access: &Access,
 ) -> Result<(), NoMemory> {
     say(text, "This access is not done without the bus now. ")?;
     say_choice(text, seen, board, access)?;
@@ -165,7 +170,7 @@ pub fn say_local(
     seen: &mut Seen,
     at: At,
     board: BoardNo,
-    access: Access,
+    access: &Access,
     after: State,
 ) -> Result<(), NoMemory> {
     for state in [after, State::M, State::O, State::E, State::S, State::I] {

@@ -50,7 +50,7 @@ pub fn say_choice(
     text: &mut Text,
     seen: &Seen,
     board: BoardNo,
-    access: Access,
+    access: &Access,
 ) -> Result<(), NoMemory> {
     say_board(text, board, " is to do ")?;
     say_access(text, access)?;
@@ -68,7 +68,7 @@ pub fn say_raise(
     seen: &Seen,
     at: At,
     board: BoardNo,
-    access: Access,
+    access: &Access,
 ) -> Result<(), NoMemory> {
     at.show_word(text, 1)?;
     if seen.phase() == Phase::Granted(board) || seen.phase() == Phase::Connected(board) {
@@ -87,7 +87,7 @@ fn has_alternative(cell: &[LocalAction], event: BusEvent, outcome: Outcome) -> b
 }
 
 /// Whether a transaction may flush a victim of its master.
-fn flushes(seen: &Seen, transaction: &Connected, access: Access) -> bool {
+fn flushes(seen: &Seen, transaction: &Connected, access: &Access) -> bool {
     let state = seen.state(transaction.master, transaction.line);
     transaction.event == BusEvent::Flu
         && transaction.line != access.addr().line()
@@ -210,7 +210,7 @@ pub fn say_connect(
     seen: &Seen,
     at: At,
     transaction: &Connected,
-    access: Access,
+    access: &Access,
 ) -> Result<(), NoMemory> {
     let master = transaction.master;
     if seen.phase() != Phase::Granted(master) {

@@ -52,12 +52,12 @@ pub fn before_choice(place: usize, count: usize) -> &'static str {
 }
 
 /// Appends an access.
-pub fn say_access(text: &mut Text, access: Access) -> Result<(), NoMemory> {
+pub fn say_access(text: &mut Text, access: &Access) -> Result<(), NoMemory> {
     match access {
         Access::Read(addr) => counted(text, "read ", u64::from(addr.0), ""),
         Access::Write(addr, value) => {
             counted(text, "write ", u64::from(addr.0), " ")?;
-            number(text, u64::from(value))
+            number(text, u64::from(*value))
         }
         Access::Pass(addr) => counted(text, "pass ", u64::from(addr.0), ""),
         Access::Flush(addr) => counted(text, "flush ", u64::from(addr.0), ""),

@@ -2,7 +2,7 @@
 //! the bus.
 
 use backplane::Machine;
-use bus_signals::{Access, BoardNo, LineNo};
+use bus_signals::{Access, Addr, BoardNo, LineNo};
 use class_relation::{LocalAction, Table};
 use journal::Event;
 use moesi_state::State;
@@ -98,6 +98,15 @@ impl Seen {
         }
     }
 
+    /// A word of a board's copy of its line.
+    pub fn word(&self, board: BoardNo, addr: Addr) -> Option<u32> {
+        let Some(copy) = self.copy(board, addr.line()) else {
+            return None;
+        };
+        let words = copy.1;
+        words.get(usize::from(addr.offset())).copied()
+    }
+
     /// The table of a board.
     pub fn table(&self, board: BoardNo) -> Option<&Table> {
         let place = usize::from(board.0).checked_sub(1)?;
@@ -106,7 +115,7 @@ impl Seen {
     }
 
     /// The alternatives that a board has for an access.
-    pub fn cell(&self, board: BoardNo, access: Access) -> &[LocalAction] {
+    pub fn cell(&self, board: BoardNo, access: &Access) -> &[LocalAction] {
         match self.table(board) {
             Some(table) => table.local(self.state(board, access.addr().line()), access.kind()),
             None => &[],

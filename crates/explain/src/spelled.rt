@@ -49,7 +49,7 @@ fn say_done(text: &mut Text, done: Option<Done>) -> Result<(), NoMemory> {
     let Some(done) = done else {
         return say(text, "evict");
     };
-    say_access(text, done.access)?;
+    say_access(text, &done.access)?;
     match done.reply {
         Some(word) => counted(text, " = ", u64::from(word), ""),
         None => Ok(()),

@@ -44,11 +44,11 @@ fn say_refused(
         return say_finished(text, board);
     };
     match event {
-        Event::Local { after, .. } => say_local(alloc, text, seen, at, board, access, *after),
+        Event::Local { after, .. } => say_local(alloc, text, seen, at, board, &access, *after),
         Event::Drop { .. } => say_drop(alloc, text, seen, at, board),
-        Event::Raise { .. } => say_raise(text, seen, at, board, access),
+        Event::Raise { .. } => say_raise(text, seen, at, board, &access),
         Event::Grant { .. } => say_grant(alloc, text, seen, at, board),
-        Event::Connect(transaction) => say_connect(text, seen, at, transaction, access),
+        Event::Connect(transaction) => say_connect(text, seen, at, transaction, &access),
         Event::DataPhase(_) => say_data(alloc, text, seen, at, board),
     }
 }
@@ -91,7 +91,7 @@ fn say_unfinished(text: &mut Text, seen: &Seen, board: BoardNo) -> Result<(), No
     counted(text, "", seen.script(board).len() as u64, " accesses")?;
     if let Some(access) = seen.present(board) {
         say(text, "; its next is ")?;
-        say_access(text, access)?;
+        say_access(text, &access)?;
     }
     say(text, ".\n")
 }
