@@ -155,62 +155,64 @@ pub fn say_why(text: &mut Text, fault: &Fault) -> Result<(), NoMemory> {
     }
 }
 
-/// Appends the sentences of a fault that goes back to an earlier line, or to the end of the text.
-fn say_other(text: &mut Text, why: &Why) -> Result<(), NoMemory> {
+/// Appends the sentences of a fault that goes back to an earlier line.
+fn say_earlier(text: &mut Text, why: &Why) -> Result<(), NoMemory> {
     match *why {
-        Why::TableNotEnded { name, line } => {
-            say_at_line(
-                text,
-                "An end line is missing before this one, for table ",
-                name,
-                ", begun at line ",
-                line,
-            )
-        }
-        Why::TwiceCell { line } => say_at_line(
-            text,
-            "This cell",
-            b"",
-            " was given before, at line ",
-            line,
-        ),
-        Why::TwiceName { line } => say_at_line(
-            text,
-            "A table of this name",
-            b"",
-            " stands at line ",
-            line,
-        ),
-        Why::TwiceNumber { board, line } => {
-            counted(text, "This is the number of board ", board, ",")?;
+        Why::TwiceCell { line } => {
             counted(
                 text,
-                " at line ",
+                "This cell was given before, at line ",
                 u64::from(line),
-                ". Each board has its own.\n",
+                ".\n",
             )
         }
+        Why::TwiceName { line } => {
+            counted(
+                text,
+                "A table of this name stands at line ",
+                u64::from(line),
+                ".\n",
+            )
+        }
+        Why::TwiceNumber { board, line } => {
+            counted(text, "This is the number of board ", board, ", at line ")?;
+            counted(text, "", u64::from(line), ". Each board has its own.\n")
+        }
+        Why::TableNotEnded { name, line } => {
+            let before = "An end line is missing before this one, for table ";
+            say_at_line(text, before, name, ", begun at line ", line)
+        }
         Why::NoFrames { name, line } => {
+            let before = "A plain board keeps no copy, but table ";
             say_at_line(
                 text,
-                "A plain board keeps no copy, but table ",
+                before,
                 name,
                 " leads from I to another state at line ",
                 line,
             )?;
             say(text, "Write cached SETS WAYS.\n")
         }
+        _ => Ok(()),
+    }
+}
+
+/// Appends the sentences of a fault where words are missing, or that goes back to an earlier line.
+fn say_other(text: &mut Text, why: &Why) -> Result<(), NoMemory> {
+    match *why {
         Why::NoAlternative => {
             say(
                 text,
                 "The cell has no alternative. Expected a state (M, O, E, S or I) or CH:x/y after =.\n",
             )
         }
-        Why::Empty => say(
-            text,
-            "The text is empty. A setup begins with memory LINES, and a text of tables with table NAME.\n",
-        ),
+        Why::Empty => {
+            say(
+                text,
+                "The text is empty. A setup begins with memory LINES, and a text of tables with table NAME.\n",
+            )
+        }
         Why::SetupNotEnded => say(text, "The text ends without its last line, end.\n"),
-        _ => Ok(()),
+        _ => say_earlier(text, why),
     }
 }
