@@ -1,9 +1,10 @@
 -- `check`: the verdict on each table of a text of tables or of a setup.
+use Rattle.std.specs.Prelude.{ℕ, List, [], ◌∷◌, Bool, false, codes, if◌then◌else◌}
 use Rattle.std.specs.Option.{option_map_or}
 use Rattle.std.specs.Str.{bytes_eq}
 use Rattle.fb_text.specs.Unread.{Unread, at_next_line, first}
 use Rattle.setup_text.specs.Reading.{book_at}
-use Rattle.fb_cli.specs.Command.{ℕ, List, [], ◌∷◌, Bool, false, codes, if◌then◌else◌, unread, setup_at, Role, Setup, Output, report_output, within, on_read, Command, exactly, setup_file}
+use Rattle.fb_cli.specs.Command.{unread, setup_at, Role, Setup, Output, report_output, within, on_read, Command, exactly, setup_file}
 
 -- Whether a text is one of tables: its first word is `table`.
 abbrev pub is_book : Unread → Bool

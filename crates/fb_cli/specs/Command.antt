@@ -1,8 +1,7 @@
 -- What a command is, and what a call that does it may answer.
 use Rattle.std.specs.Io.KnownBytes.{Appends}
 use Rattle.fb_edge.specs.Outside.{AppendsFront}
-pub use Rattle.std.specs.Prelude.{◌≡◌, ◌⊎◌, ℕ, ◌+◌, ◌≤◌, ◌<◌, List, [], ◌∷◌, ◌++◌, length, map, Bool, true, false, Option, None, Some, IfSome, Result, Ok, Err, codes, decimal, if◌then◌else◌}
-pub use Rattle.std.specs.List.{AllByRecursion, list_all}
+use Rattle.std.specs.Prelude.{◌≡◌, ◌⊎◌, ℕ, ◌≤◌, List, [], ◌∷◌, length, Option, Some, IfSome, Ok}
 pub use Rattle.fb_text.specs.Unread.{unread}
 pub use Rattle.setup_text.specs.Reading.{setup_at}
 pub use Rattle.fb_cli.specs.Output.{Output, Files, Role, Refusal, Setup, is_accepted, limit_of, output, refusal_output, fault_output, report_output, within, on_read, with_file, if_accepted, with_accepted}

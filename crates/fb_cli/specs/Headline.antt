@@ -1,11 +1,13 @@
 -- What a run that was printed promises.
+use Rattle.std.specs.Prelude.{◌≡◌, ℕ, ◌≤◌, List, ◌∷◌, ◌++◌, length, map, Ok}
+use Rattle.std.specs.List.{AllByRecursion}
 use Rattle.trace_text.specs.Ranges.{InRange}
 use Rattle.bus_model.specs.Setup.{AllInClass, script_of}
 use Rattle.bus_model.specs.Events.{Event, Grant}
 use Rattle.bus_model.specs.Steps.{CanGrant}
 use Rattle.bus_model.specs.Entries.{Entry, entries, entries_of, Legal}
 use Rattle.bus_model.specs.Soundness.{Sound}
-use Rattle.fb_cli.specs.Command.{◌≡◌, ℕ, ◌≤◌, List, ◌∷◌, ◌++◌, length, map, Ok, AllByRecursion, unread, setup_at, Role, Setup, limit_of}
+use Rattle.fb_cli.specs.Command.{unread, setup_at, Role, Setup, limit_of}
 pub use Rattle.bus_model.specs.Configuration.{opening}
 pub use Rattle.bus_model.specs.Runs.{Run, Complete, after_all}
 pub use Rattle.fb_cli.specs.Replay.{run_text, ending, replay_output}

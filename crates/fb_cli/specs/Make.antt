@@ -1,7 +1,8 @@
 -- `make`: the written spelling of the generated setup of a number.
+use Rattle.std.specs.Prelude.{ℕ, []}
 use Rattle.setup_text.specs.Writing.{written_setup}
 use Rattle.generator.specs.Generated.{generated}
-use Rattle.fb_cli.specs.Command.{ℕ, [], Command, exactly}
+use Rattle.fb_cli.specs.Command.{Command, exactly}
 
 -- The command on a number.
 abbrev pub make : (seed : ℕ) → Command

@@ -1,5 +1,7 @@
 -- `race`: the boards of a setup, each from a thread of its own.
-use Rattle.fb_cli.specs.Command.{◌≡◌, ℕ, List, [], true, list_all, Setup, is_accepted, Output, with_accepted, Command, AreSetup}
+use Rattle.std.specs.Prelude.{◌≡◌, ℕ, List, [], true}
+use Rattle.std.specs.List.{list_all}
+use Rattle.fb_cli.specs.Command.{Setup, is_accepted, Output, with_accepted, Command, AreSetup}
 use Rattle.fb_cli.specs.Headline.{IsTextOfRun}
 use Rattle.fb_cli.specs.Run.{running}
 

@@ -1,10 +1,12 @@
 -- `replay`: a trace replayed on a setup, and what its reading piece by piece comes to.
+use Rattle.std.specs.Prelude.{◌≡◌, ℕ, ◌+◌, ◌<◌, List, [], ◌∷◌, ◌++◌, length, true, Option, IfSome, Result, Ok, Err, codes, decimal}
+use Rattle.std.specs.List.{list_all}
 use Rattle.backplane.specs.Machine.{Machine, configuration, opened}
 use Rattle.replayer.specs.declared.fault.ReplayFault.{ReplayFault}
 use Rattle.replayer.specs.Replaying.{replayed}
 use Rattle.replayer.specs.Standing.{Replaying, StandsFor}
 use Rattle.fb_cli.specs.declared.replaying.TraceFileFault.{TraceFileFault}
-use Rattle.fb_cli.specs.Command.{◌≡◌, ℕ, ◌+◌, ◌<◌, List, [], ◌∷◌, ◌++◌, length, true, Option, IfSome, Result, Ok, Err, codes, decimal, list_all, Role, Output, is_accepted, output, within, with_accepted, Command, exactly, setup_file, file_on}
+use Rattle.fb_cli.specs.Command.{Role, Output, is_accepted, output, within, with_accepted, Command, exactly, setup_file, file_on}
 pub use Rattle.run_text.specs.RunText.{run_text, ending}
 
 -- The output where a trace was replayed: the ending of its run, or why it is not that of a complete

@@ -1,10 +1,11 @@
 -- What the steps of a command come to: what was read, or the reply with which the command stops.
+use Rattle.std.specs.Prelude.{◌≡◌, ℕ, List, Option, IfSome}
 use Rattle.backplane.specs.Machine.{configuration}
 use Rattle.setup_text.specs.declared.fault.SetupFault.{SetupFault}
 use Rattle.fb_cli.specs.declared.answers.Answer.{Answer}
 use Rattle.fb_cli.specs.declared.answers.Outcome.{Outcome}
 use Rattle.fb_cli.specs.declared.answers.Reply.{Reply}
-use Rattle.fb_cli.specs.Command.{◌≡◌, ℕ, List, Option, IfSome, Output, Files, Role, Refusal, refusal_output, fault_output, Command, Found, none, found, Asked, IsUnread}
+use Rattle.fb_cli.specs.Command.{Output, Files, Role, Refusal, refusal_output, fault_output, Command, Found, none, found, Asked, IsUnread}
 use Rattle.fb_cli.specs.Replay.{run_text, ending}
 
 -- The status of an outcome.

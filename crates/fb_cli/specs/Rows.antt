@@ -1,10 +1,11 @@
 -- The commands, and the words that ask for each of them.
+use Rattle.std.specs.Prelude.{ℕ, List, [], ◌∷◌, Option, None, Some, codes, if◌then◌else◌}
 use Rattle.std.specs.Option.{option_map}
 use Rattle.std.specs.Str.{bytes_eq}
 use Rattle.std.specs.Result.{result_ok}
 use Rattle.fb_text.specs.Number.{number_of}
 use Rattle.fb_text.specs.Unread.{number_within}
-use Rattle.fb_cli.specs.Command.{ℕ, List, [], ◌∷◌, Option, None, Some, codes, if◌then◌else◌, Command, Found, none, found}
+use Rattle.fb_cli.specs.Command.{Command, Found, none, found}
 use Rattle.fb_cli.specs.Check.{check}
 use Rattle.fb_cli.specs.Show.{show}
 use Rattle.fb_cli.specs.Run.{run, run_seeded}

@@ -1,8 +1,9 @@
 -- `run`: a setup played by a schedule, or by the seeded schedule of a number.
+use Rattle.std.specs.Prelude.{ℕ, List, [], ◌∷◌, length}
 use Rattle.setup_text.specs.Reading.{schedule_at}
 use Rattle.bus_model.specs.Setup.{access_count}
 use Rattle.generator.specs.Schedule.{seeded_turns}
-use Rattle.fb_cli.specs.Command.{ℕ, List, [], ◌∷◌, length, setup_at, Role, Setup, Output, Files, with_file, if_accepted, with_accepted, File, Command, exactly, setup_file, file_on}
+use Rattle.fb_cli.specs.Command.{setup_at, Role, Setup, Output, Files, with_file, if_accepted, with_accepted, File, Command, exactly, setup_file, file_on}
 use Rattle.fb_cli.specs.Headline.{opening, after_all, run_text, IsRunOf}
 pub use Rattle.bus_model.specs.Turns.{played}
 

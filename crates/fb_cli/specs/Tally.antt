@@ -1,8 +1,9 @@
 -- `tally`: counts over the run of the generated setup of a number.
+use Rattle.std.specs.Prelude.{ℕ, []}
 use Rattle.bus_model.specs.Entries.{entries}
 use Rattle.generator.specs.Generated.{generated}
 use Rattle.tally.specs.Tally.{tally_text}
-use Rattle.fb_cli.specs.Command.{ℕ, [], Output, Command, exactly}
+use Rattle.fb_cli.specs.Command.{Output, Command, exactly}
 use Rattle.fb_cli.specs.Run.{played, turns_of}
 
 -- The counts over the events of the generated setup, played by the seeded schedule of the number.
