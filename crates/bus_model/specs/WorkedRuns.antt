@@ -5,7 +5,7 @@ use Rattle.bus_signals.specs.declared.BusEvent.TheVariants.{Rd, Rfo, Inv, Urd, B
 use Rattle.moesi_state.specs.declared.State.TheVariants.{M, O, E, S, I}
 use Rattle.moesi_state.specs.declared.Outcome.TheVariants.{Fixed, OnHit}
 use Rattle.class_relation.specs.Actions.{answer}
-use Rattle.class_relation.specs.Tables.{Table}
+use Rattle.class_relation.specs.Tables.{Table, answer_cell}
 use Rattle.table_check.specs.KnownTables.{uncached, copy_back, copy_back_update, write_through, quiet}
 use Rattle.bus_model.specs.Setup.{Setup, WellFormed, AllInClass}
 use Rattle.bus_model.specs.Events.{Event, Local, Raise, Grant, Connect, Nobody, Memory, Board}
@@ -30,7 +30,7 @@ write_through_dropping =
     record {
       name = codes "dr";
       locals = write_through.locals;
-      answers = slice_set write_through.answers 27 (quiet I);
+      answers = slice_set write_through.answers (answer_cell S Rd) (quiet I);
     }
 
 -- An uncached board reads a word that a copy-back board has written: the owner gives the word, and

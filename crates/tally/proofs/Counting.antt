@@ -1,12 +1,13 @@
 -- Counts and sums over a journal, one event after another.
-use Rattle.std.proofs.Common.{◌≡◌, ℕ, suc, ◌+◌, ◌^◌, ◌<◌, ◌≤◌, Option, Some, None, take, Bool, true, false, cond, List, [], ◌∷◌, ◌++◌, map, length, get_or, append_assoc, refl, sym, ap, ◌∙◌, arith}
+use Rattle.std.proofs.Common.{◌≡◌, ℕ, zero, suc, ◌+◌, ◌^◌, ◌<◌, ◌≤◌, Option, Some, None, take, Bool, true, false, ◌&&◌, cond, List, [], ◌∷◌, ◌++◌, map, length, get_or, append_assoc, refl, sym, ap, ◌∙◌, arith}
 use Rattle.std.specs.List.{sum_by, flat_map}
-use Rattle.std.specs.Prelude.{slice_index, slice_set, unwrap_or, ◌==◌}
+use Rattle.std.specs.Prelude.{slice_get, slice_index, slice_set, unwrap_or, ◌==◌}
+use Rattle.std.proofs.lemmas.Bool.{and_parts, eqb-true, eq-eqb, ne_eqb}
 use Rattle.std.proofs.lemmas.List.Sums.{sum_by_push, sum_by-cons}
 use Rattle.std.proofs.lemmas.List.{take_more, length-take}
 use Rattle.bus_signals.specs.declared.BusEvent.{BusEvent}
-use Rattle.bus_signals.specs.declared.BusEvent.TheVariants.{Rd, Rfo, Inv, Urd, Bwr, Uwr, Ubw, Pas, Flu}
 use Rattle.bus_signals.specs.Signals.{event_number}
+use Rattle.bus_signals.proofs.Events.{bus_listed, bus_below}
 use Rattle.class_relation.specs.Tables.{bus_events}
 use Rattle.bus_model.specs.Places.{count_where}
 use Rattle.bus_model.specs.Events.{Event, Local, Drop, Raise, Grant, Connect, DataPhase, Done}
@@ -43,19 +44,21 @@ count_at_most test (x ∷ xs) = go (test x) (count_at_most test xs)
     go true least = omega (arith, least)
     go false least = omega (arith, least)
 
+map_at :
+    {X : Type 0} (f : X → ℕ) (xs : List X) (n : ℕ) (x : X) → slice_get xs n ≡ Some x → slice_index (map f xs) n ≡ f x
+map_at f [] n x at = cc
+map_at f (y ∷ xs) zero x at = let same : y ≡ x = cc in ap f same
+map_at f (y ∷ xs) (suc n) x at = map_at f xs n x at
+
+map_same : {X : Type 0} (f g : X → ℕ) (xs : List X) → ((x : X) → f x ≡ g x) → map f xs ≡ map g xs
+map_same f g [] same = refl
+map_same f g (x ∷ xs) same = λ i. same x i ∷ map_same f g xs same i
+
 -- The count of a bus event is found at its number.
 count_at :
     (journal : List Event) (event : BusEvent)
     → slice_index (connect_counts journal) (event_number event) ≡ connect_count journal event
-count_at journal Rd = refl
-count_at journal Rfo = refl
-count_at journal Inv = refl
-count_at journal Urd = refl
-count_at journal Bwr = refl
-count_at journal Uwr = refl
-count_at journal Ubw = refl
-count_at journal Pas = refl
-count_at journal Flu = refl
+count_at journal event = map_at (connect_count journal) bus_events (event_number event) event (bus_listed event)
 
 pub counts_low :
     (journal : List Event) (event : BusEvent)
@@ -68,29 +71,53 @@ counts_push :
     (journal : List Event) (event : Event)
     → connect_counts (journal ++ event ∷ [])
     ≡ map (λ e. one_more_if (connects e event) (connect_count journal e)) bus_events
-counts_push journal event = λ i.
-    more Rd i ∷ more Rfo i ∷ more Inv i ∷ more Urd i ∷ more Bwr i ∷ more Uwr i ∷ more Ubw i ∷ more Pas i ∷ more Flu i
-    ∷ []
-  where
-    more :
-        (e : BusEvent)
-        → connect_count (journal ++ event ∷ []) e ≡ one_more_if (connects e event) (connect_count journal e)
-    more e = count_push (connects e) journal event
+counts_push journal event =
+    map_same (connect_count (journal ++ event ∷ []))
+    (λ e. one_more_if (connects e event) (connect_count journal e)) bus_events
+    (λ e. count_push (connects e) journal event)
+
+-- Whether these bus events have the numbers from this one on.
+abbrev numbered_from : ℕ → List BusEvent → Bool
+numbered_from k [] = true
+numbered_from k (e ∷ es) = (event_number e == k) && numbered_from (suc k) es
+
+-- One more of a number that none of them has changes nothing.
+others_stay :
+    (f : BusEvent → ℕ) (m k : ℕ) (es : List BusEvent) → m < k → numbered_from k es ≡ true
+    → map (λ e. one_more_if (event_number e == m) (f e)) es ≡ map f es
+others_stay f m k [] below numbered = refl
+others_stay f m k (e ∷ es) below numbered =
+    let both = and_parts (event_number e == k) (numbered_from (suc k) es) numbered in
+    let here = eqb-true (event_number e) k both.0 in
+    let other = ne_eqb (event_number e) m (λ same. omega (arith, here, same, below)) in
+    λ i. one_more_if (other i) (f e) ∷ others_stay f m (suc k) es (omega (arith, below)) both.1 i
+
+-- One more at a place is one more of the number there.
+one_more_at :
+    (f : BusEvent → ℕ) (k n m : ℕ) (es : List BusEvent) → n < length es → numbered_from k es ≡ true → k + n ≡ m
+    → slice_set (map f es) n (suc (slice_index (map f es) n)) ≡ map (λ e. one_more_if (event_number e == m) (f e)) es
+one_more_at f k n m [] within numbered at = absurd (omega (arith, within))
+one_more_at f k zero m (e ∷ es) within numbered at =
+    let both = and_parts (event_number e == k) (numbered_from (suc k) es) numbered in
+    let here = eqb-true (event_number e) k both.0 in
+    let this = eq-eqb (event_number e) m (omega (arith, here, at)) in
+    let rest = others_stay f m (suc k) es (omega (arith, at)) both.1 in
+    λ i. one_more_if (sym this i) (f e) ∷ sym rest i
+one_more_at f k (suc n) m (e ∷ es) within numbered at =
+    let both = and_parts (event_number e == k) (numbered_from (suc k) es) numbered in
+    let here = eqb-true (event_number e) k both.0 in
+    let other = ne_eqb (event_number e) m (λ same. omega (arith, here, same, at)) in
+    let rest = one_more_at f (suc k) n m es (omega (arith, within)) both.1 (omega (arith, at)) in
+    λ i. one_more_if (sym other i) (f e) ∷ rest i
 
 counted_connect :
     (journal : List Event) (event : BusEvent)
     → slice_set (connect_counts journal) (event_number event)
     (suc (slice_index (connect_counts journal) (event_number event)))
     ≡ map (λ e. one_more_if (event_number e == event_number event) (connect_count journal e)) bus_events
-counted_connect journal Rd = refl
-counted_connect journal Rfo = refl
-counted_connect journal Inv = refl
-counted_connect journal Urd = refl
-counted_connect journal Bwr = refl
-counted_connect journal Uwr = refl
-counted_connect journal Ubw = refl
-counted_connect journal Pas = refl
-counted_connect journal Flu = refl
+counted_connect journal event =
+    one_more_at (connect_count journal) 0 (event_number event) (event_number event) bus_events (bus_below event) refl
+    (omega arith)
 
 -- One more event is counted.
 pub counted_more :

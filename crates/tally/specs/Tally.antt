@@ -39,8 +39,8 @@ tally_line word value = line_bytes (word ∷ decimal value ∷ [])
 abbrev pub event_line : List Event → BusEvent → List ℕ
 event_line journal event = tally_line (bus_event_word event) (connect_count journal event)
 
--- The thirteen lines of the tally of a generated setup that was run, with the journal and the
--- history of the run.
+-- The lines of the tally of a generated setup that was run, with the journal and the history of the
+-- run.
 abbrev pub tally_text : ℕ → List Event → List Entry → List ℕ
 tally_text n journal history =
     tally_line (codes "seed") n

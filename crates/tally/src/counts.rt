@@ -6,8 +6,11 @@ ghost use Rattle.bus_signals.specs.Signals.{event_number};
 ghost use Rattle.bus_model.specs.Entries.{entries};
 ghost use Rattle.tally.specs.Tally.{connect_counts as counts_of, counted, reply_if_done, reply_in, replies_sum as sum_of};
 
-use bus_signals::BusEvent;
+use bus_signals::{BUS_EVENTS, BusEvent};
 use journal::{Done, Event};
+
+/// How many bus events there are.
+pub(crate) const EVENT_COUNT: usize = BUS_EVENTS.len();
 
 /// The number of a bus event in its order, from 0.
 pub(crate) fn event_number(event: BusEvent) -> usize
@@ -16,7 +19,7 @@ pub(crate) fn event_number(event: BusEvent) -> usize
     event as usize
 }
 
-fn count(counts: &mut [u64; 9], event: BusEvent)
+fn count(counts: &mut [u64; EVENT_COUNT], event: BusEvent)
     requires { slice_index counts.old (event_number event) < 2 ^ 32 }
     ensures { counts.new
         ≡ slice_set counts.old (event_number event)
@@ -26,7 +29,7 @@ fn count(counts: &mut [u64; 9], event: BusEvent)
 }
 
 /// Counts an event, where it connects a bus event.
-fn count_event(counts: &mut [u64; 9], event: &Event)
+fn count_event(counts: &mut [u64; EVENT_COUNT], event: &Event)
     requires { (e : BusEvent) → slice_index counts.old (event_number e) < 2 ^ 32 }
     ensures { counts.new ≡ counted counts.old event.now }
 {
@@ -41,7 +44,7 @@ fn count_event(counts: &mut [u64; 9], event: &Event)
 }
 
 /// How often each bus event was connected, in the order of bus events.
-pub fn connect_counts(journal: &[Event]) -> [u64; 9]
+pub fn connect_counts(journal: &[Event]) -> [u64; EVENT_COUNT]
     requires { length journal.now < 2 ^ 32 }
     ensures { result ≡ counts_of journal.now }
 {

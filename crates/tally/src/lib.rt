@@ -1,4 +1,4 @@
-//! The tally of a run: thirteen lines of counts.
+//! The tally of a run: lines of counts, one of them for each bus event.
 #![tactic(auto)]
 
 mod counts;

@@ -6,14 +6,11 @@ ghost use Rattle.fb_text.specs.Written.{KeepsRoom};
 ghost use Rattle.bus_model.specs.Entries.{entries};
 ghost use Rattle.tally.specs.Tally.{tally_line, counts_line, tally_text};
 
-use crate::counts::{connect_counts, event_number, replies_sum};
-use bus_signals::BusEvent;
-use bus_signals::BusEvent::{Bwr, Flu, Inv, Pas, Rd, Rfo, Ubw, Urd, Uwr};
+use crate::counts::{EVENT_COUNT, connect_counts, event_number, replies_sum};
+use bus_signals::{BUS_EVENTS, BusEvent};
 use class_words::bus_event_text;
 use fb_text::Text;
 use journal::Event;
-
-const BUS_EVENTS: [BusEvent; 9] = [Rd, Rfo, Inv, Urd, Bwr, Uwr, Ubw, Pas, Flu];
 
 /// The number of accesses of a generated setup.
 const ACCESSES: u64 = 100_000;
@@ -32,7 +29,7 @@ fn line(text: &mut Text, word: &str, value: u64)
 }
 
 /// The lines of bus events, by the counts of all.
-fn event_lines(text: &mut Text, counts: &[u64; 9], events: &[BusEvent])
+fn event_lines(text: &mut Text, counts: &[u64; EVENT_COUNT], events: &[BusEvent])
     requires { 32 * length events.now ≤ text.old.spare }
     ensures bytes { text.new.bytes
         ≡ text.old.bytes ++ flat_map (counts_line counts.now) events.now }
