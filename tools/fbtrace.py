@@ -36,6 +36,11 @@ EVENTS = {
     "pas": (1, 0, 0, "line written"),
     "flu": (0, 0, 0, "line written"),
 }
+# The bus events that read a line, read a word, and write a line.
+LINE_READS, WORD_READS, LINE_WRITES = (
+    frozenset(event for event, row in EVENTS.items() if row[3] == transfer)
+    for transfer in ("line read", "word read", "line written")
+)
 # The bus events that do not come to a board in a state.
 NEVER = {"M": ("inv", "bwr", "pas", "flu"), "O": ("pas", "flu"), "E": ("inv", "bwr", "pas", "flu"), "S": (), "I": ()}
 
@@ -269,7 +274,7 @@ class Machine:
     def do_data(self, event):
         """The words that a data phase moves, and the states that it leaves."""
         board, line = event.board, event.line
-        words = self.supplied(event) if event.event in ("rd", "rfo") else self.words(board, line)
+        words = self.supplied(event) if event.event in LINE_READS else self.words(board, line)
         if event.access == "write":
             words = written(words, event)
         for taker in event.takers:
