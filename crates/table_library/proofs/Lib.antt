@@ -1,0 +1,12 @@
+pub mod Passing
+pub mod Sets
+pub mod Serving
+pub mod Keeping
+pub mod CellLemmas
+pub mod Filled
+pub mod Parts
+pub mod NarrowedParts
+pub mod Largest
+pub mod Boards
+pub mod RuleLaws
+pub mod LibraryLaws

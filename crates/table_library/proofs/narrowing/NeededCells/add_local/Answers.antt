@@ -1,0 +1,19 @@
+use Rattle.std.proofs.Common.{◌≡◌, List, Bool, filter, subst}
+use Rattle.std.specs.Prelude.{OnOk}
+use Rattle.class_relation.specs.declared.LocalAction.{LocalAction}
+use Rattle.class_relation.specs.Tables.{locals_of}
+use Rattle.table_library.specs.Filling.{with_locals}
+use Rattle.table_library.proofs.narrowing.NeededCells.add_local.Goals as goal
+
+pub returns : goal.returns
+returns c =
+    subst
+    (λ (b : Bool). OnOk c.add_locals_if.result (c.add_locals_if.new.table
+    ≡ with_locals c.args.table.now c.args.state c.args.event
+    (filter (λ (action : LocalAction). b) (locals_of c.args.self.now.table.now c.args.state c.args.event))))
+    c.is_needed-needed.ensures
+    (subst
+    (λ (xs : List LocalAction). OnOk c.add_locals_if.result (c.add_locals_if.new.table
+    ≡ with_locals c.args.table.now c.args.state c.args.event
+    (filter (λ (action : LocalAction). c.is_needed-needed.result) xs)))
+    c.local-actions.ensures.cell c.add_locals_if.ensures)

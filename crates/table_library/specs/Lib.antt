@@ -1,0 +1,10 @@
+pub mod Cells
+pub mod StateSets
+pub mod Fitting
+pub mod Kept
+pub mod Narrow
+pub mod Greatest
+pub mod Filling
+pub mod Rules
+pub mod Protocols
+pub mod Traffic

@@ -1,0 +1,107 @@
+//! Tables that are filled cell by cell.
+
+ghost use Rattle.std.specs.Prelude.{◌≡◌, ◌∷◌, [], List, IfOk, OnOk};
+ghost use Rattle.bus_signals.specs.declared.BusEvent.{BusEvent};
+ghost use Rattle.bus_signals.specs.declared.LocalEvent.{LocalEvent};
+ghost use Rattle.moesi_state.specs.declared.State.{State};
+ghost use Rattle.class_relation.specs.declared.LocalAction.{LocalAction};
+ghost use Rattle.class_relation.specs.declared.SnoopAction.{SnoopAction};
+ghost use Rattle.class_relation.specs.Tables.{local_events, bus_events};
+ghost use Rattle.table_library.specs.Cells.{table_by};
+ghost use Rattle.table_library.specs.Filling.{with_locals, with_answers, filled_locals, filled_answers, filled};
+
+use bus_signals::{BUS_EVENTS, BusEvent, LOCAL_EVENTS, LocalEvent};
+use class_relation::{LocalAction, Name, SnoopAction, Table};
+use moesi_state::{STATES, State};
+use no_memory::NoMemory;
+use std::alloc::Global;
+
+/// What knows the alternatives of each cell.
+pub(crate) trait Cells {
+    /// The alternatives of each cell of a local event.
+    ghost locals: { Self → State → LocalEvent → List LocalAction };
+
+    /// The alternatives of each cell of a bus event.
+    ghost answers: { Self → State → BusEvent → List SnoopAction };
+
+    /// Appends the alternatives of a state and a local event to a table.
+    fn add_local(&self, table: &mut Table, state: State, event: LocalEvent) -> Result<(), NoMemory>
+        ensures { OnOk result (table.new
+            ≡ with_locals table.old state event (locals self.now state event)) };
+
+    /// Appends the alternatives of a state and a bus event to a table.
+    fn add_answer(&self, table: &mut Table, state: State, event: BusEvent) -> Result<(), NoMemory>
+        ensures { OnOk result (table.new
+            ≡ with_answers table.old state event (answers self.now state event)) };
+}
+
+/// Appends an alternative to a local cell. A cell that takes no more than one cell of another table
+/// has is never full.
+#[tactic(auto, unfolding(crate::specs::Filling::with_locals))]
+pub(crate) fn push_local(
+    table: &mut Table,
+    state: State,
+    event: LocalEvent,
+    action: LocalAction,
+) -> Result<(), NoMemory>
+    ensures { OnOk result (table.new ≡ with_locals table.old state event (action ∷ [])) }
+{
+    match table.push_local(state, event, action) {
+        Ok(()) => Ok(()),
+        Err(_) => Err(NoMemory),
+    }
+}
+
+/// Appends an alternative to an answer cell.
+#[tactic(auto, unfolding(crate::specs::Filling::with_answers))]
+pub(crate) fn push_answer(
+    table: &mut Table,
+    state: State,
+    event: BusEvent,
+    answer: SnoopAction,
+) -> Result<(), NoMemory>
+    ensures { OnOk result (table.new ≡ with_answers table.old state event (answer ∷ [])) }
+{
+    match table.push_snoop(state, event, answer) {
+        Ok(()) => Ok(()),
+        Err(_) => Err(NoMemory),
+    }
+}
+
+fn add_locals<C: Cells>(cells: &C, table: &mut Table, state: State) -> Result<(), NoMemory>
+    ensures { OnOk result (table.new
+        ≡ filled_locals (C.locals cells.now) state table.old local_events) }
+{
+    for event in LOCAL_EVENTS {
+        cells.add_local(table, state, event)?;
+    }
+    Ok(())
+}
+
+fn add_answers<C: Cells>(cells: &C, table: &mut Table, state: State) -> Result<(), NoMemory>
+    ensures { OnOk result (table.new
+        ≡ filled_answers (C.answers cells.now) state table.old bus_events) }
+{
+    for event in BUS_EVENTS {
+        cells.add_answer(table, state, event)?;
+    }
+    Ok(())
+}
+
+/// The table of this name with these cells.
+#[tactic(auto, using(crate::proofs::Filled::filled_empty))]
+pub(crate) fn filled_table<C: Cells>(
+    alloc: Global,
+    name: Name,
+    cells: &C,
+) -> Result<Table, NoMemory>
+    ensures { IfOk result (λ table. table
+        ≡ table_by name (C.locals cells.now) (C.answers cells.now)) }
+{
+    let mut table = Table::empty(alloc, name);
+    for state in STATES {
+        add_locals(cells, &mut table, state)?;
+        add_answers(cells, &mut table, state)?;
+    }
+    Ok(table)
+}

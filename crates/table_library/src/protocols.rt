@@ -1,0 +1,170 @@
+//! What a board of each protocol does for its own accesses.
+
+ghost use Rattle.std.specs.Prelude.{◌≡◌, [], slice_index_or};
+ghost use Rattle.std.specs.Option.{option_to_list};
+ghost use Rattle.class_relation.specs.Actions.{silently as goes_silently, by_bus as goes_by_bus, by_hit as goes_by_hit};
+ghost use Rattle.class_relation.specs.Tables.{local_cell, locals_of};
+ghost use Rattle.table_check.specs.KnownTables.{one, uncached, copy_back, copy_back_update, copy_back_locals};
+ghost use Rattle.table_library.specs.Protocols.{protocol_table, write_through_locals};
+
+use crate::kinds::Kind;
+use bus_signals::{BusEvent, LocalEvent};
+use class_relation::LocalAction;
+use moesi_state::{Outcome, State};
+
+fn silently(state: State) -> LocalAction
+    ensures { result ≡ goes_silently state }
+{
+    LocalAction {
+        result: Outcome::Fixed(state),
+        bus: None,
+    }
+}
+
+fn by_bus(state: State, event: BusEvent) -> LocalAction
+    ensures { result ≡ goes_by_bus state event }
+{
+    LocalAction {
+        result: Outcome::Fixed(state),
+        bus: Some(event),
+    }
+}
+
+fn by_hit(hit: State, miss: State, event: BusEvent) -> LocalAction
+    ensures { result ≡ goes_by_hit hit miss event }
+{
+    LocalAction {
+        result: Outcome::OnHit { hit, miss },
+        bus: Some(event),
+    }
+}
+
+fn copy_back_read(state: State) -> LocalAction
+    ensures { (shared : LocalAction) → one result
+        ≡ slice_index_or (copy_back_locals shared shared) (local_cell state LocalEvent.Read) [] }
+{
+    match state {
+        State::M | State::O | State::E | State::S => silently(state),
+        State::I => by_hit(State::S, State::E, BusEvent::Rd),
+    }
+}
+
+/// A write, by the given action where other boards may have copies.
+fn copy_back_write(state: State, shared: LocalAction) -> LocalAction
+    ensures { one result
+        ≡ slice_index_or (copy_back_locals shared shared) (local_cell state LocalEvent.Write) [] }
+{
+    match state {
+        State::M | State::E => silently(State::M),
+        State::O | State::S => shared,
+        State::I => by_bus(State::M, BusEvent::Rfo),
+    }
+}
+
+fn copy_back_pass(state: State) -> LocalAction
+    ensures { (shared : LocalAction) → one result
+        ≡ slice_index_or (copy_back_locals shared shared) (local_cell state LocalEvent.Pass) [] }
+{
+    match state {
+        State::M => by_bus(State::E, BusEvent::Pas),
+        State::O => by_hit(State::S, State::E, BusEvent::Pas),
+        State::E | State::S | State::I => silently(state),
+    }
+}
+
+fn copy_back_flush(state: State) -> LocalAction
+    ensures { (shared : LocalAction) → one result
+        ≡ slice_index_or (copy_back_locals shared shared) (local_cell state LocalEvent.Flush) [] }
+{
+    match state {
+        State::M | State::O => by_bus(State::I, BusEvent::Flu),
+        State::E | State::S | State::I => silently(State::I),
+    }
+}
+
+/// What a copy-back board does that writes in this way where other boards may have copies.
+fn copy_back_action(state: State, event: LocalEvent, shared: LocalAction) -> LocalAction
+    ensures { one result
+        ≡ slice_index_or (copy_back_locals shared shared) (local_cell state event) [] }
+{
+    match event {
+        LocalEvent::Read => copy_back_read(state),
+        LocalEvent::Write => copy_back_write(state, shared),
+        LocalEvent::Pass => copy_back_pass(state),
+        LocalEvent::Flush => copy_back_flush(state),
+    }
+}
+
+/// What a copy-back board does that invalidates other copies before it writes.
+fn invalidating_action(state: State, event: LocalEvent) -> LocalAction
+    ensures { one result ≡ locals_of copy_back state event }
+{
+    copy_back_action(state, event, by_bus(State::M, BusEvent::Inv))
+}
+
+/// What a copy-back board does that updates other copies when it writes.
+fn updating_action(state: State, event: LocalEvent) -> LocalAction
+    ensures { one result ≡ locals_of copy_back_update state event }
+{
+    copy_back_action(state, event, by_hit(State::O, State::M, BusEvent::Bwr))
+}
+
+fn shared_write_through(event: LocalEvent, write: BusEvent) -> LocalAction
+    ensures { one result
+        ≡ slice_index_or (write_through_locals write) (local_cell State.S event) [] }
+{
+    match event {
+        LocalEvent::Read | LocalEvent::Pass => silently(State::S),
+        LocalEvent::Write => by_bus(State::S, write),
+        LocalEvent::Flush => silently(State::I),
+    }
+}
+
+fn invalid_write_through(event: LocalEvent, write: BusEvent) -> LocalAction
+    ensures { one result
+        ≡ slice_index_or (write_through_locals write) (local_cell State.I event) [] }
+{
+    match event {
+        LocalEvent::Read => by_bus(State::S, BusEvent::Rd),
+        LocalEvent::Write => by_bus(State::I, write),
+        LocalEvent::Pass | LocalEvent::Flush => silently(State::I),
+    }
+}
+
+/// What a write-through board does that writes by this event.
+fn write_through_action(state: State, event: LocalEvent, write: BusEvent) -> Option<LocalAction>
+    ensures { option_to_list result
+        ≡ slice_index_or (write_through_locals write) (local_cell state event) [] }
+{
+    match state {
+        State::M | State::O | State::E => None,
+        State::S => Some(shared_write_through(event, write)),
+        State::I => Some(invalid_write_through(event, write)),
+    }
+}
+
+/// What an uncached board does.
+fn uncached_action(state: State, event: LocalEvent) -> Option<LocalAction>
+    ensures { option_to_list result ≡ locals_of uncached state event }
+{
+    match (state, event) {
+        (State::I, LocalEvent::Read) => Some(by_bus(State::I, BusEvent::Urd)),
+        (State::I, LocalEvent::Write) => Some(by_bus(State::I, BusEvent::Uwr)),
+        (State::I, LocalEvent::Pass | LocalEvent::Flush) => Some(silently(State::I)),
+        (State::M | State::O | State::E | State::S, _) => None,
+    }
+}
+
+/// What a board of this protocol does for its own access, where it can be in this state.
+pub(crate) fn own_action(kind: Kind, state: State, event: LocalEvent) -> Option<LocalAction>
+    ensures { option_to_list result ≡ locals_of (protocol_table kind) state event }
+{
+    match kind {
+        Kind::Invalidate => Some(invalidating_action(state, event)),
+        Kind::Update => Some(updating_action(state, event)),
+        Kind::Exclusive => Some(invalidating_action(state, event)),
+        Kind::Through => write_through_action(state, event, BusEvent::Uwr),
+        Kind::ThroughBroadcast => write_through_action(state, event, BusEvent::Ubw),
+        Kind::Uncached => uncached_action(state, event),
+    }
+}

@@ -1,0 +1,279 @@
+//! The tables of the library, narrowed tables, and the traffic of a small journal.
+
+use super::*;
+use bus_signals::{Access, Addr, BUS_EVENTS, BoardNo, BusEvent, LOCAL_EVENTS, LineNo, LocalEvent};
+use class_relation::{LocalAction, Name, Table};
+use journal::{Answers, Carried, Connected, Done, Event, Places, Source, States, Takers};
+use moesi_state::{Outcome, STATES, State};
+use std::alloc::Global;
+use std::test::*;
+
+/// Whether two tables have the same name and cells.
+fn same(a: &Table, b: &Table) -> bool {
+    if a.name().bytes() != b.name().bytes() {
+        return false;
+    }
+    for state in STATES {
+        for event in LOCAL_EVENTS {
+            if a.local(state, event) != b.local(state, event) {
+                return false;
+            }
+        }
+        for event in BUS_EVENTS {
+            if a.snoop(state, event) != b.snoop(state, event) {
+                return false;
+            }
+        }
+    }
+    true
+}
+
+/// An alternative for a local cell.
+type Change = (State, LocalEvent, LocalAction);
+
+/// The cells of a table in some of its states, and these alternatives.
+fn in_states(
+    alloc: Global,
+    table: &Table,
+    states: &[State],
+    changes: &[Change],
+) -> Result<Table, Fail> {
+    let mut part = Table::empty(alloc, table.name());
+    for (state, event, action) in changes {
+        if part.push_local(*state, *event, *action).is_err() {
+            return Err("memory".into());
+        }
+    }
+    for state in states {
+        for event in LOCAL_EVENTS {
+            if !part.local(*state, event).is_empty() {
+                continue;
+            }
+            for action in table.local(*state, event) {
+                if part.push_local(*state, event, *action).is_err() {
+                    return Err("memory".into());
+                }
+            }
+        }
+        for event in BUS_EVENTS {
+            for answer in table.snoop(*state, event) {
+                if part.push_snoop(*state, event, *answer).is_err() {
+                    return Err("memory".into());
+                }
+            }
+        }
+    }
+    Ok(part)
+}
+
+/// An alternative that goes to a state by a transaction.
+fn by(state: State, event: BusEvent) -> LocalAction {
+    LocalAction {
+        result: Outcome::Fixed(state),
+        bus: Some(event),
+    }
+}
+
+#[test]
+fn names_are_those_of_the_tables(rt: HostRuntime) -> Result<(), Fail> {
+    let names = [
+        (Kind::Invalidate, "cb"),
+        (Kind::Update, "up"),
+        (Kind::Through, "wt"),
+        (Kind::ThroughBroadcast, "wb"),
+        (Kind::Exclusive, "ex"),
+        (Kind::Uncached, "un"),
+    ];
+    for (kind, name) in names {
+        assert_eq!(rt; kind.name(), name);
+        assert_eq!(rt; kind_of(name.as_bytes()), Some(kind));
+        let Ok(accepted) = library(rt.alloc(), kind) else {
+            return Err("memory".into());
+        };
+        assert_eq!(rt; accepted.table().name().bytes(), name.as_bytes());
+        let Ok(Some(narrowed)) = narrow(rt.alloc(), accepted.table()) else {
+            return Err("none".into());
+        };
+        assert!(rt; same(narrowed.table(), accepted.table()));
+    }
+    for name in ["class", "", "cbx", "CB"] {
+        assert_eq!(rt; kind_of(name.as_bytes()), None);
+    }
+    Ok(())
+}
+
+/// Write-through does not keep the alternative that would lead to E, which it has no cells for.
+#[test]
+fn what_leads_out_goes(rt: HostRuntime) -> Result<(), Fail> {
+    let Ok(through) = library(rt.alloc(), Kind::Through) else {
+        return Err("memory".into());
+    };
+    let Ok(mut wide) = through.table().copy() else {
+        return Err("memory".into());
+    };
+    let to_exclusive = LocalAction {
+        result: Outcome::OnHit {
+            hit: State::S,
+            miss: State::E,
+        },
+        bus: Some(BusEvent::Rd),
+    };
+    if wide
+        .push_local(State::I, LocalEvent::Read, to_exclusive)
+        .is_err()
+    {
+        return Err("memory".into());
+    }
+    let Ok(Some(narrowed)) = narrow(rt.alloc(), &wide) else {
+        return Err("none".into());
+    };
+    assert!(rt; same(narrowed.table(), through.table()));
+    Ok(())
+}
+
+#[test]
+fn what_is_not_reached_goes(rt: HostRuntime) -> Result<(), Fail> {
+    let Ok(uncached) = library(rt.alloc(), Kind::Uncached) else {
+        return Err("memory".into());
+    };
+    let Ok(cached) = library(rt.alloc(), Kind::Invalidate) else {
+        return Err("memory".into());
+    };
+    let changes = [
+        (State::I, LocalEvent::Read, by(State::I, BusEvent::Urd)),
+        (State::I, LocalEvent::Write, by(State::I, BusEvent::Uwr)),
+    ];
+    let wide = in_states(rt.alloc(), cached.table(), &STATES, &changes)?;
+    let Ok(Some(narrowed)) = narrow(rt.alloc(), &wide) else {
+        return Err("none".into());
+    };
+    assert!(rt;
+        narrowed
+            .table()
+            .local(State::M, LocalEvent::Read)
+            .is_empty()
+    );
+    for event in LOCAL_EVENTS {
+        assert_eq!(rt;
+            narrowed.table().local(State::I, event),
+            uncached.table().local(State::I, event)
+        );
+    }
+    Ok(())
+}
+
+/// Without O a copy-back table has nothing in the class, since it is written by M that answers `rd`
+/// by O.
+#[test]
+fn nothing_may_be_left(rt: HostRuntime) -> Result<(), Fail> {
+    let Ok(cached) = library(rt.alloc(), Kind::Invalidate) else {
+        return Err("memory".into());
+    };
+    let states = [State::M, State::E, State::S, State::I];
+    let without_owned = in_states(rt.alloc(), cached.table(), &states, &[])?;
+    assert!(rt; matches!(narrow(rt.alloc(), &without_owned), Ok(None)));
+    Ok(())
+}
+
+/// Each round leaves out one state: E, which has no cells, then M, O, S, and I at last.
+#[test]
+fn states_may_go_one_by_one(rt: HostRuntime) -> Result<(), Fail> {
+    let Ok(cached) = library(rt.alloc(), Kind::Invalidate) else {
+        return Err("memory".into());
+    };
+    let states = [State::M, State::O, State::S, State::I];
+    let changes = [
+        (State::O, LocalEvent::Pass, by(State::S, BusEvent::Pas)),
+        (State::S, LocalEvent::Write, by(State::O, BusEvent::Inv)),
+        (State::I, LocalEvent::Read, by(State::S, BusEvent::Rd)),
+        (State::I, LocalEvent::Write, by(State::I, BusEvent::Uwr)),
+    ];
+    let table = in_states(rt.alloc(), cached.table(), &states, &changes)?;
+    assert!(rt; matches!(narrow(rt.alloc(), &table), Ok(None)));
+    Ok(())
+}
+
+fn connect(master: u8, event: BusEvent) -> Event {
+    Event::Connect(Connected {
+        master: BoardNo(master),
+        event,
+        line: LineNo(0),
+        outcome: Outcome::Fixed(State::S),
+        answers: Answers::new(),
+    })
+}
+
+fn data(master: u8, event: BusEvent, source: Source, takers: Takers) -> Event {
+    Event::DataPhase(Carried {
+        master: BoardNo(master),
+        event,
+        line: LineNo(0),
+        source,
+        takers,
+        states: States::new(),
+        done: None,
+    })
+}
+
+fn nobody() -> Takers {
+    Takers {
+        memory: false,
+        boards: Places::new(),
+    }
+}
+
+#[test]
+fn a_small_journal_is_counted(rt: HostRuntime) -> Result<(), Fail> {
+    let mut boards = Places::new();
+    boards.push(BoardNo(1));
+    let both = Takers {
+        memory: true,
+        boards,
+    };
+    let journal = [
+        connect(1, BusEvent::Rfo),
+        data(1, BusEvent::Rfo, Source::Memory, nobody()),
+        connect(2, BusEvent::Rd),
+        data(2, BusEvent::Rd, Source::Board(BoardNo(1)), nobody()),
+        Event::Local {
+            board: BoardNo(2),
+            before: State::S,
+            after: State::S,
+            done: Done {
+                access: Access::Read(Addr(0)),
+                reply: Some(5),
+            },
+        },
+        connect(2, BusEvent::Bwr),
+        data(2, BusEvent::Bwr, Source::Nobody, both),
+        connect(2, BusEvent::Inv),
+        data(2, BusEvent::Inv, Source::Nobody, nobody()),
+    ];
+    let report = traffic(&journal);
+    let first = Counts {
+        connects: 1,
+        words: 4,
+        local: 0,
+        served: 1,
+        took: 1,
+    };
+    let second = Counts {
+        connects: 3,
+        words: 5,
+        local: 1,
+        served: 0,
+        took: 0,
+    };
+    let none = Counts {
+        connects: 0,
+        words: 0,
+        local: 0,
+        served: 0,
+        took: 0,
+    };
+    assert_eq!(rt; report.board(BoardNo(1)), first);
+    assert_eq!(rt; report.board(BoardNo(2)), second);
+    assert_eq!(rt; report.board(BoardNo(16)), none);
+    assert_eq!(rt; report.memory(), (1, 1));
+    Ok(())
+}
