@@ -9,10 +9,12 @@ use class_relation::Table;
 use std::marker::Model;
 use table_check::BoardSpec;
 
-/// The words of memory, the tables, the boards and their scripts. Contracts see it as these lists.
+/// The words of memory, whether arbitration is fair, the tables, the boards and their scripts.
+/// Contracts see it as these.
 #[derive(Drop)]
 pub struct Setup {
     memory: Vec<u32>,
+    fair: bool,
     tables: Vec<Table>,
     boards: Vec<BoardSpec>,
     scripts: Vec<Vec<Access>>,
@@ -24,9 +26,9 @@ impl Model for Setup {
 
     ghost Value = { Setup };
 
-    ghost view = { λ s. record { memory = s.memory.items; tables = s.tables.items; boards = s.boards.items; scripts = rows s.scripts.items } };
+    ghost view = { λ s. record { memory = s.memory.items; fair = s.fair; tables = s.tables.items; boards = s.boards.items; scripts = rows s.scripts.items } };
 
-    ghost invariant = { λ s. WellFormed (record { memory = s.memory.items; tables = s.tables.items; boards = s.boards.items; scripts = rows s.scripts.items }) };
+    ghost invariant = { λ s. WellFormed (record { memory = s.memory.items; fair = s.fair; tables = s.tables.items; boards = s.boards.items; scripts = rows s.scripts.items }) };
 }
 
 impl Setup {
@@ -34,12 +36,14 @@ impl Setup {
     /// by the place in the list, from 0.
     pub fn of(
         memory: Vec<u32>,
+        fair: bool,
         tables: Vec<Table>,
         boards: Vec<BoardSpec>,
         scripts: Vec<Vec<Access>>,
     ) -> Setup
         requires { WellFormed (record {
           memory = memory.items;
+          fair = fair;
           tables = tables.items;
           boards = boards.items;
           scripts = rows scripts.items;
@@ -47,6 +51,7 @@ impl Setup {
         ensures { result
             ≡ record {
               memory = memory.items;
+              fair = fair;
               tables = tables.items;
               boards = boards.items;
               scripts = rows scripts.items;
@@ -54,6 +59,7 @@ impl Setup {
     {
         Setup {
             memory,
+            fair,
             tables,
             boards,
             scripts,
@@ -66,6 +72,15 @@ impl Setup {
         ensures sound { WellFormed self.now }
     {
         &self.memory
+    }
+
+    /// Whether arbitration is fair: a board that won the bus is then passed over until every raised
+    /// board was served.
+    pub fn fair(&self) -> bool
+        ensures fair { result ≡ self.now.fair }
+        ensures sound { WellFormed self.now }
+    {
+        self.fair
     }
 
     /// The tables, in their order.
