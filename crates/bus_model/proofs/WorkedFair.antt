@@ -16,7 +16,154 @@ passed_over_plays =
       fits = WorkedSetups.passed_over_fits;
       accepted = WorkedSetups.passed_over_accepted;
       turns = refl;
-      runs = ((read 0, record { present = refl; not_raised = refl; not_granted = refl; not_connected = refl; needs = refl }), ((read 0, record { present = refl; not_raised = refl; not_granted = refl; not_connected = refl; needs = refl }), (record { idle = refl; by_raised = refl; wins = record { competes = refl; number_highest = refl; lines_settled = refl; rounds_settled = refl } }, ((read 0, record { present = refl; granted = refl; purpose = inl (record { line = refl; alternative = refl; room = λ h. cc }); answers = tt }), ((connection 1 Urd 0 (Fixed I) ([]), record { present = refl; connected = refl; master = refl; event = refl; line = refl; source = refl; takers = refl; states = refl; done = refl }), ((read 0, record { present = refl; not_raised = refl; not_granted = refl; not_connected = refl; needs = refl }), (record { idle = refl; by_raised = refl; wins = record { competes = refl; number_highest = refl; lines_settled = refl; rounds_settled = refl } }, ((read 0, record { present = refl; granted = refl; purpose = inl (record { line = refl; alternative = refl; room = λ h. cc }); answers = tt }), ((connection 2 Urd 0 (Fixed I) ([]), record { present = refl; connected = refl; master = refl; event = refl; line = refl; source = refl; takers = refl; states = refl; done = refl }), (record { idle = refl; by_raised = refl; wins = record { competes = refl; number_highest = refl; lines_settled = refl; rounds_settled = refl } }, ((read 0, record { present = refl; granted = refl; purpose = inl (record { line = refl; alternative = refl; room = λ h. cc }); answers = tt }), ((connection 1 Urd 0 (Fixed I) ([]), record { present = refl; connected = refl; master = refl; event = refl; line = refl; source = refl; takers = refl; states = refl; done = refl }), refl))))))))))));
+      runs = (
+        (
+          read 0,
+          record { present = refl; not_raised = refl; not_granted = refl; not_connected = refl; needs = refl },
+        ),
+        (
+          (
+            read 0,
+            record { present = refl; not_raised = refl; not_granted = refl; not_connected = refl; needs = refl },
+          ),
+          (
+            record {
+              idle = refl;
+              by_raised = refl;
+              wins = record {
+                competes = refl;
+                number_highest = refl;
+                lines_settled = refl;
+                rounds_settled = refl;
+              };
+            },
+            (
+              (
+                read 0,
+                record {
+                  present = refl;
+                  granted = refl;
+                  purpose = inl (record {
+                    line = refl;
+                    alternative = refl;
+                    room = λ h. cc;
+                  });
+                  answers = tt;
+                },
+              ),
+              (
+                (
+                  connection 1 Urd 0 (Fixed I) ([]),
+                  record {
+                    present = refl;
+                    connected = refl;
+                    master = refl;
+                    event = refl;
+                    line = refl;
+                    source = refl;
+                    takers = refl;
+                    states = refl;
+                    done = refl;
+                  },
+                ),
+                (
+                  (
+                    read 0,
+                    record { present = refl; not_raised = refl; not_granted = refl; not_connected = refl; needs = refl },
+                  ),
+                  (
+                    record {
+                      idle = refl;
+                      by_raised = refl;
+                      wins = record {
+                        competes = refl;
+                        number_highest = refl;
+                        lines_settled = refl;
+                        rounds_settled = refl;
+                      };
+                    },
+                    (
+                      (
+                        read 0,
+                        record {
+                          present = refl;
+                          granted = refl;
+                          purpose = inl (record {
+                            line = refl;
+                            alternative = refl;
+                            room = λ h. cc;
+                          });
+                          answers = tt;
+                        },
+                      ),
+                      (
+                        (
+                          connection 2 Urd 0 (Fixed I) ([]),
+                          record {
+                            present = refl;
+                            connected = refl;
+                            master = refl;
+                            event = refl;
+                            line = refl;
+                            source = refl;
+                            takers = refl;
+                            states = refl;
+                            done = refl;
+                          },
+                        ),
+                        (
+                          record {
+                            idle = refl;
+                            by_raised = refl;
+                            wins = record {
+                              competes = refl;
+                              number_highest = refl;
+                              lines_settled = refl;
+                              rounds_settled = refl;
+                            };
+                          },
+                          (
+                            (
+                              read 0,
+                              record {
+                                present = refl;
+                                granted = refl;
+                                purpose = inl (record {
+                                  line = refl;
+                                  alternative = refl;
+                                  room = λ h. cc;
+                                });
+                                answers = tt;
+                              },
+                            ),
+                            (
+                              (
+                                connection 1 Urd 0 (Fixed I) ([]),
+                                record {
+                                  present = refl;
+                                  connected = refl;
+                                  master = refl;
+                                  event = refl;
+                                  line = refl;
+                                  source = refl;
+                                  takers = refl;
+                                  states = refl;
+                                  done = refl;
+                                },
+                              ),
+                              refl,
+                            ),
+                          ),
+                        ),
+                      ),
+                    ),
+                  ),
+                ),
+              ),
+            ),
+          ),
+        ),
+      );
     }
 
 pub starving_plays : Plays starving starving_schedule starving_events starving_end
@@ -26,5 +173,78 @@ starving_plays =
       fits = WorkedSetups.starving_fits;
       accepted = WorkedSetups.starving_accepted;
       turns = refl;
-      runs = ((read 0, record { present = refl; not_raised = refl; not_granted = refl; not_connected = refl; needs = refl }), ((read 0, record { present = refl; not_raised = refl; not_granted = refl; not_connected = refl; needs = refl }), (record { idle = refl; by_raised = refl; wins = record { competes = refl; number_highest = refl; lines_settled = refl; rounds_settled = refl } }, ((read 0, record { present = refl; granted = refl; purpose = inl (record { line = refl; alternative = refl; room = λ h. cc }); answers = tt }), ((connection 1 Urd 0 (Fixed I) ([]), record { present = refl; connected = refl; master = refl; event = refl; line = refl; source = refl; takers = refl; states = refl; done = refl }), ((read 0, record { present = refl; not_raised = refl; not_granted = refl; not_connected = refl; needs = refl }), (record { idle = refl; by_raised = refl; wins = record { competes = refl; number_highest = refl; lines_settled = refl; rounds_settled = refl } }, refl)))))));
+      runs = (
+        (
+          read 0,
+          record { present = refl; not_raised = refl; not_granted = refl; not_connected = refl; needs = refl },
+        ),
+        (
+          (
+            read 0,
+            record { present = refl; not_raised = refl; not_granted = refl; not_connected = refl; needs = refl },
+          ),
+          (
+            record {
+              idle = refl;
+              by_raised = refl;
+              wins = record {
+                competes = refl;
+                number_highest = refl;
+                lines_settled = refl;
+                rounds_settled = refl;
+              };
+            },
+            (
+              (
+                read 0,
+                record {
+                  present = refl;
+                  granted = refl;
+                  purpose = inl (record {
+                    line = refl;
+                    alternative = refl;
+                    room = λ h. cc;
+                  });
+                  answers = tt;
+                },
+              ),
+              (
+                (
+                  connection 1 Urd 0 (Fixed I) ([]),
+                  record {
+                    present = refl;
+                    connected = refl;
+                    master = refl;
+                    event = refl;
+                    line = refl;
+                    source = refl;
+                    takers = refl;
+                    states = refl;
+                    done = refl;
+                  },
+                ),
+                (
+                  (
+                    read 0,
+                    record { present = refl; not_raised = refl; not_granted = refl; not_connected = refl; needs = refl },
+                  ),
+                  (
+                    record {
+                      idle = refl;
+                      by_raised = refl;
+                      wins = record {
+                        competes = refl;
+                        number_highest = refl;
+                        lines_settled = refl;
+                        rounds_settled = refl;
+                      };
+                    },
+                    refl,
+                  ),
+                ),
+              ),
+            ),
+          ),
+        ),
+      );
     }
