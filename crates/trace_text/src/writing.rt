@@ -390,10 +390,10 @@ fn raise(text: &mut Text, place: BoardNo)
 
 #[tactic(auto, using(crate::proofs::Lengths::lines_short))]
 fn settled(text: &mut Text, lines: u16)
-    requires lines { lines ≤ 255 }
-    requires room { 4 ≤ text.old.spare }
+    requires lines { lines ≤ 1023 }
+    requires room { 5 ≤ text.old.spare }
     ensures bytes { text.new.bytes ≡ text.old.bytes ++ 32 ∷ decimal lines }
-    ensures spare { text.old.spare ≤ text.new.spare + 4 }
+    ensures spare { text.old.spare ≤ text.new.spare + 5 }
     ensures kept { KeepsRoom text.old text.new }
 {
     number(text, u64::from(lines));
@@ -401,7 +401,7 @@ fn settled(text: &mut Text, lines: u16)
 
 #[tactic(auto, using(crate::proofs::Lengths::digit_short))]
 fn round_count(text: &mut Text, rounds: u8)
-    requires rounds { rounds ≤ 7 }
+    requires rounds { rounds ≤ 9 }
     requires room { 2 ≤ text.old.spare }
     ensures bytes { text.new.bytes ≡ text.old.bytes ++ 32 ∷ decimal rounds }
     ensures spare { text.old.spare ≤ text.new.spare + 2 }
@@ -412,8 +412,8 @@ fn round_count(text: &mut Text, rounds: u8)
 
 fn grant(text: &mut Text, by: BoardNo, winner: BoardNo, lines: u16, rounds: u8)
     requires boards { IsBoard by × IsBoard winner }
-    requires lines { lines ≤ 255 }
-    requires rounds { rounds ≤ 7 }
+    requires lines { lines ≤ 1023 }
+    requires rounds { rounds ≤ 9 }
     requires room { 252 ≤ text.old.spare }
     ensures bytes { text.new.bytes
         ≡ text.old.bytes ++ spaced (event_words (Event.Grant by winner lines rounds)) }
