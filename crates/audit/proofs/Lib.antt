@@ -1,0 +1,14 @@
+pub mod Indexes
+pub mod Scans
+pub mod Cells
+pub mod Filling
+pub mod Moved
+pub mod Turning
+pub mod Keeping
+pub mod LocalSteps
+pub mod DataSteps
+pub mod Bounds
+pub mod Charges
+pub mod Ending
+pub mod Harmless
+pub mod Audits

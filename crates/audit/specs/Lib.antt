@@ -1,0 +1,11 @@
+pub mod Filled
+pub mod Steps
+pub mod Turns
+pub mod Harms
+pub mod First
+pub mod Playing
+pub mod Touched
+pub mod Seen
+pub mod Seats
+pub mod Parts
+pub mod Rows

@@ -1,0 +1,24 @@
+//! The auditor: it runs any tables, accepted or not, and names the first harm that they do.
+#![tactic(auto)]
+
+mod auditing;
+mod carrying;
+mod copies;
+mod course;
+mod effects;
+mod finding;
+mod grants;
+mod harms;
+mod parts;
+mod phase;
+mod picks;
+mod room;
+mod seats;
+mod turning;
+
+pub use auditing::{Audit, audit};
+pub use finding::{Finding, Harm};
+pub use no_memory::NoMemory;
+
+#[cfg(test)]
+mod tests;
