@@ -12,3 +12,8 @@ pub mod Charges
 pub mod Ending
 pub mod Harmless
 pub mod Audits
+pub mod Agreeing
+pub mod Agreed
+pub mod Agreement
+pub mod Watching
+pub mod Growing

@@ -4,6 +4,7 @@ pub mod Turns
 pub mod Harms
 pub mod First
 pub mod Playing
+pub mod Auditor
 pub mod Touched
 pub mod Seen
 pub mod Seats

@@ -48,7 +48,7 @@ fn in_order(a: LineNo, b: LineNo) -> Touched
 }
 
 /// The lines that an event is going to touch.
-pub fn touched(setup: &Setup, parts: &Parts, event: &Event) -> Touched
+pub fn touched_by(setup: &Setup, parts: &Parts, event: &Event) -> Touched
     ensures { result ≡ touched setup.now (shown parts.now) event.now }
 {
     match event {

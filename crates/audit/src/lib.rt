@@ -1,6 +1,7 @@
 //! The auditor: it runs any tables, accepted or not, and names the first harm that they do.
 #![tactic(auto)]
 
+mod audited;
 mod auditing;
 mod carrying;
 mod copies;
@@ -16,7 +17,8 @@ mod room;
 mod seats;
 mod turning;
 
-pub use auditing::{Audit, audit};
+pub use audited::Audit;
+pub use auditing::audit;
 pub use finding::{Finding, Harm};
 pub use no_memory::NoMemory;
 
