@@ -34,6 +34,38 @@ fn lines(
     }
 }
 
+/// A table with another line in the place of the one that begins so.
+fn changed(alloc: Global, table: &str, begins: &str, line: &str) -> Result<String, Fail> {
+    let mut text = String::new(alloc);
+    for old in table.split('\n') {
+        if old.starts_with(begins) {
+            text.push_str(line)?;
+            text.push('\n')?;
+        } else if !old.is_empty() {
+            text.push_str(old)?;
+            text.push('\n')?;
+        }
+    }
+    Ok(text)
+}
+
+/// What is found where board 1 has a table and board 2 another one.
+fn found(
+    alloc: Global,
+    first: &str,
+    second: &str,
+    plain: bool,
+    scripts: (&str, &str),
+    schedule: &[u8],
+) -> Result<Option<(u32, Harm)>, Fail> {
+    let shape = if plain { "plain" } else { "cached 1 1" };
+    let setup = format!(in alloc; "memory 1\ntable x\n{}end\ntable y\n{}end\nboard 1 number 10 table x cached 1 1 choose first\n{}board 2 number 9 table y {} choose first\n{}end\n", first, second, scripts.0, shape, scripts.1)?;
+    match lines(alloc, setup.as_str(), schedule)?.1 {
+        Some(finding) => Ok(Some((finding.event, finding.harm))),
+        None => Ok(None),
+    }
+}
+
 #[test]
 fn an_intervention_does_no_harm(rt: HostRuntime) -> Result<(), Fail> {
     let alloc = rt.alloc();
@@ -41,5 +73,43 @@ fn an_intervention_does_no_harm(rt: HostRuntime) -> Result<(), Fail> {
     let audit = lines(alloc, setup.as_str(), [1, 1, 1, 1, 2, 2, 2, 2].as_slice())?;
     assert_eq!(rt; audit.1, None);
     assert_eq!(rt; audit.0.as_str(), "raise 1\ngrant 1 to 1 lines 10 rounds 0\nconnect 1 rfo line 1 to M answers none\ndata 1 rfo line 1 from memory into none states 1=M done write 5 7\nraise 2\ngrant 2 to 2 lines 9 rounds 0\nconnect 2 urd line 1 to I answers 1=M+DI\ndata 2 urd line 1 from 1 into none states 2=I 1=M done read 5 = 7\n");
+    Ok(())
+}
+
+#[test]
+fn a_wrong_line_does_harm(rt: HostRuntime) -> Result<(), Fail> {
+    let alloc = rt.alloc();
+    let each = [1, 1, 1, 1, 2, 2, 2, 2].as_slice();
+    let thrice = [1, 1, 1, 1, 2, 2, 2, 2, 2, 2, 2, 2].as_slice();
+    let one_more = [1, 1, 1, 1, 2, 2, 2, 2, 1].as_slice();
+    let reads = ("read 0\n", "read 0\n");
+    let update = changed(alloc, COPY_BACK, "O write", "O write = CH:O/M bwr")?;
+    let update = changed(alloc, update.as_str(), "S write", "S write = CH:O/M bwr")?;
+    let broadcasting = changed(alloc, UNCACHED, "I write", "I write = I ubw")?;
+    let table = changed(alloc, WRITE_THROUGH, "S rd", "S rd = S")?;
+    assert_eq!(rt; found(alloc, table.as_str(), COPY_BACK, false, reads, each)?, Some((8, Harm::Shared)));
+    let table = changed(alloc, COPY_BACK, "E rd ", "E rd = S")?;
+    assert_eq!(rt; found(alloc, table.as_str(), COPY_BACK, false, reads, each)?, Some((8, Harm::Shared)));
+    let table = changed(alloc, COPY_BACK, "E rd ", "E rd = E CH")?;
+    assert_eq!(rt; found(alloc, table.as_str(), COPY_BACK, false, reads, each)?, Some((8, Harm::Shared)));
+    let writes = ("write 0 5\n", "read 0\n");
+    let table = changed(alloc, COPY_BACK, "M rd ", "M rd = M CH DI")?;
+    assert_eq!(rt; found(alloc, table.as_str(), COPY_BACK, false, writes, each)?, Some((8, Harm::Shared)));
+    let table = changed(alloc, COPY_BACK, "M rd ", "M rd = O CH")?;
+    assert_eq!(rt; found(alloc, table.as_str(), COPY_BACK, false, writes, each)?, Some((8, Harm::Reply)));
+    let table = changed(alloc, COPY_BACK, "M rfo", "M rfo = I")?;
+    assert_eq!(rt; found(alloc, table.as_str(), COPY_BACK, false, ("write 0 5\n", "write 1 6\n"), each)?, Some((8, Harm::Words)));
+    let table = changed(alloc, COPY_BACK, "M flush", "M flush = I")?;
+    assert_eq!(rt; found(alloc, table.as_str(), UNCACHED, true, ("write 0 5\nflush 0\n", ""), [1, 1, 1, 1, 1].as_slice())?, Some((5, Harm::Memory)));
+    let table = changed(alloc, COPY_BACK, "O bwr", "O bwr = O CH SL")?;
+    assert_eq!(rt; found(alloc, table.as_str(), update.as_str(), false, ("write 0 5\n", "read 0\nwrite 1 6\n"), thrice)?, Some((12, Harm::Owners)));
+    let table = changed(alloc, COPY_BACK, "M urd", "M urd = M")?;
+    assert_eq!(rt; found(alloc, table.as_str(), UNCACHED, true, writes, each)?, Some((8, Harm::Reply)));
+    let table = changed(alloc, COPY_BACK, "S inv", "S inv = S")?;
+    assert_eq!(rt; found(alloc, table.as_str(), COPY_BACK, false, ("read 0\n", "read 0\nwrite 0 7\n"), thrice)?, Some((12, Harm::Shared)));
+    let table = changed(alloc, COPY_BACK, "E ubw", "E ubw = E")?;
+    assert_eq!(rt; found(alloc, table.as_str(), broadcasting.as_str(), true, ("read 0\n", "write 0 7\n"), each)?, Some((8, Harm::Words)));
+    let table = changed(alloc, COPY_BACK, "S write", "S write = M")?;
+    assert_eq!(rt; found(alloc, table.as_str(), COPY_BACK, false, ("read 0\nwrite 0 7\n", "read 0\n"), one_more)?, Some((9, Harm::Shared)));
     Ok(())
 }
