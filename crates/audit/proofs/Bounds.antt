@@ -38,7 +38,7 @@ use Rattle.audit.proofs.Filling.{well_filled}
 use Rattle.audit.proofs.Keeping.{RowFacts, asking_facts, connect_facts, gone_facts, later_facts, raise_phase}
 use Rattle.audit.proofs.LocalSteps.{Dropped, gone, local_facts}
 use Rattle.audit.proofs.Moved.{any_data-boards, any_data-is, any_row-keeps, any_row-master, any_rows}
-use Rattle.audit.proofs.Turning.{NotHeldBack}
+use Rattle.audit.proofs.Legal.{NotHeldBack}
 
 -- ---- the boards and the phase after an event
 

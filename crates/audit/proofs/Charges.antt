@@ -28,7 +28,7 @@ use Rattle.audit.specs.Filled.{filled}
 use Rattle.audit.specs.Steps.{after_any}
 use Rattle.audit.proofs.Bounds.{Kept, same_boards}
 use Rattle.audit.proofs.Filling.{well_filled}
-use Rattle.audit.proofs.Turning.{NotHeldBack}
+use Rattle.audit.proofs.Legal.{NotHeldBack}
 
 -- The board that an event is of has an access to do.
 user_has :

@@ -26,7 +26,7 @@ use Rattle.audit.proofs.Bounds.{Kept, kept_step}
 use Rattle.audit.proofs.Charges.{charged_step, few_events, fewer_events}
 use Rattle.audit.proofs.Filling.{well_filled}
 use Rattle.audit.proofs.Keeping.{RowFacts}
-use Rattle.audit.proofs.Turning.{NotHeldBack, any_turn_can}
+use Rattle.audit.proofs.Legal.{NotHeldBack, any_turn_can}
 
 -- ---- some board acts
 

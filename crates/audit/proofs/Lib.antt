@@ -3,7 +3,7 @@ pub mod Scans
 pub mod Cells
 pub mod Filling
 pub mod Moved
-pub mod Turning
+pub mod Legal
 pub mod Keeping
 pub mod LocalSteps
 pub mod DataSteps

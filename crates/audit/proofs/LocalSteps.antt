@@ -34,7 +34,7 @@ use Rattle.audit.specs.Filled.{filled}
 use Rattle.audit.specs.Steps.{after_any_local, displaced, without_displaced}
 use Rattle.audit.proofs.Filling.{well_filled}
 use Rattle.audit.proofs.Keeping.{PhaseFits, RowFacts, TransactionFits, gone_facts, room_for, transaction-kept}
-use Rattle.audit.proofs.Turning.{NotHeldBack}
+use Rattle.audit.proofs.Legal.{NotHeldBack}
 
 -- ---- the displaced row
 

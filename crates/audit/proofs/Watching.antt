@@ -33,7 +33,7 @@ use Rattle.audit.proofs.Audits.{first-append, or_then}
 use Rattle.audit.proofs.Charges.{few_events, place_within}
 use Rattle.audit.proofs.Ending.{Watched, any_and_rest, any_turns-append, turns_watched, watched_opening}
 use Rattle.audit.proofs.Harmless.{NoHarm, lowest-no_harm, touched_harm}
-use Rattle.audit.proofs.Turning.{any_turn_can}
+use Rattle.audit.proofs.Legal.{any_turn_can}
 
 -- ---- no harm so far
 

@@ -10,3 +10,4 @@ pub mod Seen
 pub mod Seats
 pub mod Parts
 pub mod Rows
+pub mod Exhibits

@@ -7,6 +7,7 @@ mod carrying;
 mod copies;
 mod course;
 mod effects;
+mod exhibits;
 mod finding;
 mod grants;
 mod harms;
@@ -19,6 +20,7 @@ mod turning;
 
 pub use audited::Audit;
 pub use auditing::audit;
+pub use exhibits::exhibit;
 pub use finding::{Finding, Harm};
 pub use no_memory::NoMemory;
 
