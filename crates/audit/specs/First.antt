@@ -1,10 +1,9 @@
 -- The first harm of a run of any tables.
-use Rattle.std.specs.Prelude.{◌≡◌, ℕ, suc, ◌*◌, ◌≤◌, ◌<◌, List, [], ◌∷◌, Option, Some, None, take, length, slice_get}
-use Rattle.std.specs.List.{AllByRecursion}
+use Rattle.std.specs.Prelude.{◌≡◌, ℕ, suc, ◌*◌, ◌≤◌, List, [], ◌∷◌, Option, Some, None, take, length}
 use Rattle.bus_model.specs.Setup.{Setup, board_places, access_count}
 use Rattle.bus_model.specs.Events.{Event}
 use Rattle.bus_model.specs.Configuration.{Configuration, opening, present_access}
-use Rattle.bus_model.specs.Entries.{Entry, entries, entries_with}
+use Rattle.bus_model.specs.Entries.{Entry, entries_with}
 use Rattle.audit.specs.declared.finding.Harm.{Harm}
 use Rattle.audit.specs.declared.finding.Finding.{Finding}
 use Rattle.audit.specs.Steps.{after_any, after_any_all}
@@ -67,15 +66,3 @@ pub record Audited (audit : Audit) : Type 0 where
 -- A place of a schedule is one of a board of the setup.
 abbrev pub IsPlaceOf : Setup → ℕ → Type 0
 IsPlaceOf setup place = (1 ≤ place) × (place ≤ length setup.boards)
-
--- The finding is the least number of an event with a harm after it.
-pub record IsFirst (setup : Setup) (events : List Event) (finding : Finding) : Type 0 where
-  pub number : ℕ
-  pub event : Event
-  pub counted : finding.event ≡ suc number
-  pub there : slice_get events number ≡ Some event
-  pub harm :
-      harm_after setup (entries (take number events)) event
-      (after_any_all setup (opening setup) (take (suc number) events))
-      ≡ Some (finding.harm, finding.line)
-  pub none_before : first_harm setup (take number events) ≡ None

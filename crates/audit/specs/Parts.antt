@@ -42,10 +42,6 @@ pub record CountsAreLow (boards : List Progress) : Type 0 where
   pub fills : FillsBelow (2 ^ 62) boards
   pub spent : SpentBelow (2 ^ 62) boards
 
--- There is a course for each board of a setup.
-abbrev pub HasBoards : Setup → List Progress → Type 0
-HasBoards setup boards = length boards ≡ length setup.boards
-
 -- The event of a turn, where it comes to one.
 abbrev pub event_in : Turn → Option Event
 event_in (Did event) = Some event

@@ -301,6 +301,7 @@ fn third_step(number: u8) -> Option<Step>
 }
 
 /// The scripts of the two boards, and the schedule.
+#[derive(Drop)]
 struct Play {
     scripts: Vec<Vec<Access>>,
     schedule: Vec<u8>,
@@ -344,7 +345,7 @@ impl Play {
 }
 
 /// The scripts and the schedule of an exhibit.
-fn play(alloc: Global, number: u8) -> Result<Play, NoMemory>
+fn steps_of(alloc: Global, number: u8) -> Result<Play, NoMemory>
     requires low { 1 ≤ number }
     requires high { number ≤ 12 }
     ensures { IfOk result (λ play.
@@ -401,6 +402,6 @@ pub fn exhibit(alloc: Global, number: u8) -> Result<(Setup, Vec<u8>), NoMemory>
     tables.push_reserved(first_table(alloc, number)?);
     tables.push_reserved(second_table(alloc, number)?);
     let boards = boards(alloc, second_shape(number))?;
-    let Play { scripts, schedule } = play(alloc, number)?;
+    let Play { scripts, schedule } = steps_of(alloc, number)?;
     Ok((Setup::of(memory, tables, boards, scripts), schedule))
 }
