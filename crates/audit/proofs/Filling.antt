@@ -78,9 +78,9 @@ module _ (table : Table) (state next : State) where
       go : (test (settled_alone (fallback_local event)) ≡ true) ⊎ (false ≡ true) → Led
       go (inl k) = inr (inl (fallback_led event k))
       go (inr k) = cc
-  led_locally event (a ∷ as) e h =
-      let here : list_any test (a ∷ as) ≡ true =
-      any-weaker (λ b. test (settled_alone b)) test (λ b k. may_settle-alone b.bus b.result next k) (a ∷ as) h in
+  led_locally event (a ∷ rest) e h =
+      let here : list_any test (a ∷ rest) ≡ true =
+      any-weaker (λ b. test (settled_alone b)) test (λ b k. may_settle-alone b.bus b.result next k) (a ∷ rest) h in
       let cell : list_any test (locals_of table state event) ≡ true =
       subst (λ xs. list_any test xs ≡ true) (sym e) here in
       inl (or_left (leads_locally table state next) (leads_by_answer table state next)
@@ -94,7 +94,7 @@ module _ (table : Table) (state next : State) where
       go : (same_state state next ≡ true) ⊎ (false ≡ true) → Led
       go (inl k) = inr (inr (sym (same_state-eq state next k)))
       go (inr k) = cc
-  led_by_answer event (a ∷ as) e h =
+  led_by_answer event (a ∷ rest) e h =
       let cell : list_any answer_test (answers_of table state event) ≡ true =
       subst (λ xs. list_any answer_test xs ≡ true) (sym e) h in
       inl (or_right (leads_locally table state next) (leads_by_answer table state next)

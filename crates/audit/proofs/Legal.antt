@@ -218,8 +218,9 @@ module _ (setup : Setup) (n : ℕ) (c : Configuration) (well : WellFormed setup)
         refl did
       where
         raw : List LocalAction
-        raw = filled_cell (fallback_local (kind_of access)) (locals_of (table_of setup board) (state_at c.rows board line)
-        (kind_of access))
+        raw =
+            filled_cell (fallback_local (kind_of access))
+            (locals_of (table_of setup board) (state_at c.rows board line) (kind_of access))
 
         member : In action (map settled_alone raw)
         member = subst (λ xs. In action xs) (cell_filled setup c.rows board access well there) chosen

@@ -1,5 +1,8 @@
 pub mod Indexes
 pub mod Scans
+pub mod Asking
+pub mod Courses
+pub mod Spending
 pub mod Cells
 pub mod Filling
 pub mod Moved

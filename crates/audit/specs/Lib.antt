@@ -10,4 +10,5 @@ pub mod Seen
 pub mod Seats
 pub mod Parts
 pub mod Rows
+pub mod Answering
 pub mod Exhibits

@@ -1,6 +1,8 @@
 //! Turns of boards of any tables.
 
-ghost use Rattle.std.specs.Prelude.{◌≡◌, true};
+ghost use Rattle.std.specs.Prelude.{◌≡◌, ◌≢◌, ◌+◌, ◌<◌, ◌≤◌, suc, true, [], ◌∷◌, ◌++◌, filter, length, map};
+ghost use Rattle.std.specs.List.{AllByRecursion};
+ghost use Rattle.journal.specs.Boards.{answer_boards};
 ghost use Rattle.bus_model.specs.Configuration.{is_granted, is_raised};
 ghost use Rattle.moesi_state.specs.declared.State.TheVariants.{I};
 ghost use Rattle.moesi_state.specs.declared.Outcome.TheVariants.{Fixed};
@@ -12,6 +14,7 @@ ghost use Rattle.audit.specs.First.{IsPlaceOf};
 ghost use Rattle.audit.specs.Filled.{filled};
 ghost use Rattle.audit.specs.Parts.{shown, event_in};
 ghost use Rattle.audit.specs.Turns.{guarded, any_turn};
+ghost use Rattle.audit.specs.Answering.{answer_from, is_other_holder};
 
 use crate::carrying::carried;
 use crate::copies::{state_of, words_of};
@@ -27,6 +30,40 @@ use journal::{Answer, Answers, Connected, Done, Event};
 use moesi_state::{Outcome, State};
 use setup::Setup;
 
+/// Whether another board than the master holds a line.
+fn is_other_holder(parts: &Parts, master: BoardNo, line: LineNo, board: BoardNo) -> bool
+    ensures { result ≡ is_other_holder (shown parts.now).rows master line board }
+{
+    board.0 != master.0 && state_of(&parts.rows, board, line).holds()
+}
+
+/// Takes the answer of a board, where it is another board than the master and holds the line.
+fn ask(
+    setup: &Setup,
+    parts: &Parts,
+    master: BoardNo,
+    line: LineNo,
+    event: BusEvent,
+    board: BoardNo,
+    answers: &mut Answers,
+)
+    requires board { IsPlaceOf setup.now board }
+    requires room { board ≢ master → length answers.old < 15 }
+    requires above { AllByRecursion (λ other. other < board) (answer_boards answers.old) }
+    ensures answers { answers.new
+        ≡ answers.old
+        ++ map (answer_from setup.now (shown parts.now) line event)
+        (filter (is_other_holder (shown parts.now).rows master line) (board ∷ [])) }
+    ensures one { length answers.new ≤ length answers.old + 1 }
+    ensures none { board ≡ master → length answers.new ≤ length answers.old }
+    ensures below { AllByRecursion (λ other. other < suc board) (answer_boards answers.new) }
+{
+    if is_other_holder(parts, master, line, board) {
+        let action = decide_answer(setup, parts, board, line, event);
+        answers.push(Answer { board, action });
+    }
+}
+
 /// The answers of the other boards that hold a line, as each picks them.
 fn answers_to(
     setup: &Setup,
@@ -41,11 +78,7 @@ fn answers_to(
 {
     let mut answers = Answers::new();
     for place in 0..setup.boards().len() as u8 {
-        let board = BoardNo(place + 1);
-        if board.0 != master.0 && state_of(&parts.rows, board, line).holds() {
-            let action = decide_answer(setup, parts, board, line, event);
-            answers.push(Answer { board, action });
-        }
+        ask(setup, parts, master, line, event, BoardNo(place + 1), &mut answers);
     }
     answers
 }
