@@ -1,6 +1,8 @@
 pub mod Indexes
 pub mod Scans
 pub mod Asking
+pub mod RowLists
+pub mod Seeing
 pub mod Courses
 pub mod Spending
 pub mod Cells

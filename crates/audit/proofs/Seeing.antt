@@ -1,0 +1,80 @@
+-- What is seen of the rows of a line tells what is wrong with it.
+use Rattle.std.proofs.Common.{◌≡◌, ℕ, zero, suc, ◌+◌, ◌<◌, ◌≤◌, Bool, true, false, cond, not, ◌&&◌, ◌||◌, List, [], ◌∷◌, length, get_or, drop, refl, ap, sym, ◌∙◌, arith, add-one, drop-cons}
+use Rattle.std.specs.Prelude.{if◌then◌else◌, nat_le, ◌==◌}
+use Rattle.std.specs.List.{list_all}
+use Rattle.moesi_state.specs.States.{owns, is_alone}
+use Rattle.bus_model.specs.Configuration.{Row, is_of_line, rows_of_line}
+use Rattle.bus_model.specs.Coherence.{owner_count, has_alone}
+use Rattle.audit.specs.declared.harms.Seen.{Seen}
+use Rattle.audit.specs.Harms.{same_words}
+use Rattle.audit.specs.Seen.{unseen, with_seen, seen_after}
+
+-- Whether rows have the latest words.
+abbrev pub all_latest : List ℕ → List Row → Bool
+all_latest latest rows = list_all (λ (row : Row). same_words row.words latest) rows
+
+-- What is seen after some rows, where this was seen before.
+pub record SeesAll (latest : List ℕ) (before after : Seen) (rows : List Row) : Type 0 where
+  pub owners : after.owners ≡ before.owners + owner_count rows
+  pub alone : after.alone ≡ (before.alone || has_alone rows)
+  pub copies : after.copies ≡ before.copies + length rows
+  pub stale : after.stale ≡ (before.stale || not (all_latest latest rows))
+
+or-step : (a b c : Bool) → ((a || b) || c) ≡ (a || (b || c))
+or-step true b c = refl
+or-step false b c = refl
+
+stale-step : (a b c : Bool) → ((a || not b) || not c) ≡ (a || not (b && c))
+stale-step true b c = refl
+stale-step false true c = refl
+stale-step false false c = refl
+
+or-none : (a : Bool) → a ≡ (a || false)
+or-none true = refl
+or-none false = refl
+
+owner-step : (n m : ℕ) (b : Bool) → n + (if b then 1 else 0) + m ≡ n + (cond b 1 0 + m)
+owner-step n m true = omega arith
+owner-step n m false = omega arith
+
+sees-by :
+    (line : ℕ) (latest : List ℕ) (seen : Seen) (row : Row) (rows : List Row) (b : Bool)
+    → ((s : Seen) → SeesAll latest s (seen_after line latest s rows) (rows_of_line rows line))
+    → SeesAll latest seen (seen_after line latest (if b then with_seen latest seen row else seen) rows)
+    (cond b (row ∷ rows_of_line rows line) (rows_of_line rows line))
+sees-by line latest seen row rows true more =
+    let i = more (with_seen latest seen row) in
+    let rest = rows_of_line rows line in
+    let count = i.copies in
+    record {
+      owners = i.owners ∙ owner-step seen.owners (owner_count rest) (owns row.state);
+      alone = i.alone ∙ or-step seen.alone (is_alone row.state) (has_alone rest);
+      copies = omega arith;
+      stale = i.stale ∙ stale-step seen.stale (same_words row.words latest) (all_latest latest rest);
+    }
+sees-by line latest seen row rows false more = more seen
+
+-- What is seen after the rows of a list, of those of a line.
+pub sees :
+    (line : ℕ) (latest : List ℕ) (rows : List Row) (seen : Seen)
+    → SeesAll latest seen (seen_after line latest seen rows) (rows_of_line rows line)
+sees line latest [] seen = record {
+  owners = omega arith;
+  alone = or-none seen.alone;
+  copies = omega arith;
+  stale = or-none seen.stale;
+}
+sees line latest (row ∷ rows) seen =
+    sees-by line latest seen row rows (is_of_line line row) (λ s. sees line latest rows s)
+
+-- One more row that is looked at.
+pub seen-next :
+    (line : ℕ) (latest : List ℕ) (rows : List Row) (i : ℕ) (d : Row) (seen : Seen) → i < length rows
+    → seen_after line latest seen (drop i rows)
+    ≡ seen_after line latest (if is_of_line line (get_or rows i d) then with_seen latest seen (get_or rows i d) else seen)
+    (drop (i + 1) rows)
+seen-next line latest rows i d seen l =
+    ap (seen_after line latest seen) (drop-cons rows i d l)
+    ∙ ap (λ n.
+    seen_after line latest (if is_of_line line (get_or rows i d) then with_seen latest seen (get_or rows i d) else seen)
+    (drop n rows)) (sym (add-one i))
