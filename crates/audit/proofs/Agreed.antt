@@ -52,6 +52,11 @@ use Rattle.audit.proofs.Moved.{any_data-is, any_moved, any_rows}
 
 -- ---- the word that a write carries
 
+-- Whether a bus event that writes a word comes of a write.
+abbrev by_write : Option BusEvent → LocalEvent → Bool
+by_write None kind = true
+by_write (Some event) kind = implies (writes_word event) (is_write kind)
+
 -- Where a word is written, the access is a write.
 word_is_written :
     (state : State) (kind : LocalEvent) (outcome : Outcome) (event : BusEvent)
@@ -59,11 +64,7 @@ word_is_written :
     → writes_word event ≡ true → is_write kind ≡ true
 word_is_written state kind outcome event h =
     implies-use (writes_word event) (is_write kind)
-    (local_fact (λ state kind a. by_bus a.bus kind) refl state kind (record { result = outcome; bus = Some event }) h)
-  where
-    abbrev by_bus : Option BusEvent → LocalEvent → Bool
-    by_bus None kind = true
-    by_bus (Some event) kind = implies (writes_word event) (is_write kind)
+    (local_fact (λ state kind a. by_write a.bus kind) refl state kind (record { result = outcome; bus = Some event }) h)
 
 word_fills_no_row : (event : BusEvent) → writes_word event ≡ true → fills_row event ≡ false
 word_fills_no_row event =

@@ -108,9 +108,10 @@ module _ (setup : Setup) (events : List Event) (c : Configuration) (well : WellF
       (line : ℕ) (event : BusEvent) (boards : List ℕ)
       → ((b : ℕ) → In b boards → IsPlace (length setup.boards) b)
       → AnswersFit setup c.rows line event boards
-      (map (λ other. record { board = other; action = decide_answer setup c other line event }) boards)
-      → map (λ other. record { board = other; action = decide_answer (filled setup) c other line event }) boards
-      ≡ map (λ other. record { board = other; action = decide_answer setup c other line event }) boards
+      (map {B = Answer} (λ other. record { board = other; action = decide_answer setup c other line event }) boards)
+      → map {B = Answer} (λ other. record { board = other; action = decide_answer (filled setup) c other line event })
+      boards
+      ≡ map {B = Answer} (λ other. record { board = other; action = decide_answer setup c other line event }) boards
   answers_same line event [] there fit = refl
   answers_same line event (b ∷ boards) there fit =
       λ i.
@@ -209,7 +210,7 @@ module _ (setup : Setup) (events : List Event) (c : Configuration) (well : WellF
               ∙ action_same board access a.result a.bus is
 
   -- An accepted board comes to a copy without the bus only where it has one, so it displaces no row.
-  displaced_not :
+  pub displaced_not :
       (board : ℕ) (before next : State) (done : Done) → CanLocal setup c board before next done
       → displaced setup c.rows board (access_line done.access) next ≡ None
   displaced_not board before next done can = go (holds next) refl

@@ -16,7 +16,7 @@ use Rattle.audit.specs.Playing.{after_turn, audit_turn, audit_turns, led_to, unb
 use Rattle.audit.proofs.Ending.{after_any_all-append, any_and_rest, any_turns-append}
 
 -- What is found, or else what is found later.
-abbrev or_then : Option Finding → Option Finding → Option Finding
+abbrev pub or_then : Option Finding → Option Finding → Option Finding
 or_then (Some f) later = Some f
 or_then None later = later
 
@@ -128,8 +128,7 @@ turns_audit setup journal [] none =
     let all : journal ++ [] ≡ journal = append-nil in
     sym (ap (audit_of setup) all ∙ (λ i. record { setup = setup; journal = up_to (none i) journal; finding = none i }))
 turns_audit setup journal (board ∷ boards) none =
-    go (any_turn setup (after_any_all setup (opening setup) journal) board)
-    (turns_audit setup journal boards none)
+    go (λ j e. turns_audit setup j boards e) (any_turn setup (after_any_all setup (opening setup) journal) board)
   where
     c : Configuration
     c = after_any_all setup (opening setup) journal
@@ -138,14 +137,15 @@ turns_audit setup journal (board ∷ boards) none =
     now = record { setup = setup; journal = journal; finding = None }
 
     go :
-        (t : Turn)
-        → audit_turns (record { setup = setup; journal = journal; finding = None }) boards
-        ≡ audit_of setup (journal ++ events_of_any setup (after_any_all setup (opening setup) journal) boards)
+        ((j : List Event) → first_harm setup j ≡ None
+        → audit_turns (record { setup = setup; journal = j; finding = None }) boards
+        ≡ audit_of setup (j ++ events_of_any setup (after_any_all setup (opening setup) j) boards))
+        → (t : Turn)
         → audit_turns (after_turn (record { setup = setup; journal = journal; finding = None }) t) boards
         ≡ audit_of setup (journal ++ any_and_rest setup (after_any_all setup (opening setup) journal) boards t)
-    go (Waits why) stay = stay
-    go Finished stay = stay
-    go (Did event) stay = found (first_harm setup (journal ++ event ∷ [])) refl
+    go more (Waits why) = more journal none
+    go more Finished = more journal none
+    go more (Did event) = found (first_harm setup (journal ++ event ∷ [])) refl
       where
         next : Configuration
         next = after_any setup c event
@@ -172,7 +172,7 @@ turns_audit setup journal (board ∷ boards) none =
             (journal ++ (event ∷ events_of_any setup (after_any setup (after_any_all setup (opening setup) journal) event) boards))
         found None e =
             (λ i. audit_turns (record { setup = setup; journal = journal ++ event ∷ []; finding = e i }) boards)
-            ∙ turns_audit setup (journal ++ event ∷ []) boards e
+            ∙ more (journal ++ event ∷ []) e
             ∙ ap (λ d. audit_of setup ((journal ++ event ∷ []) ++ events_of_any setup d boards)) led
             ∙ ap (audit_of setup) joined
         found (Some f) e =

@@ -215,7 +215,7 @@ module _ (setup : Setup) (well : WellFormed setup) where
       let r = any_turn_can setup (length events) c board event well w.kept.facts.rows did in
       watched_step events c event w r.0 r.1
 
-  turns_watched :
+  pub turns_watched :
       (before : List Event) (c : Configuration) (boards : List ℕ) → Watched setup before c
       → Watched setup (before ++ events_of_any setup c boards) (after_any_all setup c (events_of_any setup c boards))
   turns_watched before c [] w = rw append-nil w

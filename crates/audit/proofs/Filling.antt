@@ -30,20 +30,24 @@ use Rattle.audit.proofs.Cells.{locals_filled, answers_filled}
 any-map : {X Y : Type 0} (p : Y → Bool) (f : X → Y) (xs : List X) → list_any p (map f xs) ≡ true
     → list_any (λ x. p (f x)) xs ≡ true
 any-map p f [] h = h
-any-map p f (x ∷ xs) h = go (or_cases (p (f x)) (list_any p (map f xs)) h)
+any-map p f (x ∷ xs) h = go (any-map p f xs) (or_cases (p (f x)) (list_any p (map f xs)) h)
   where
-    go : (p (f x) ≡ true) ⊎ (list_any p (map f xs) ≡ true) → (p (f x) || list_any (λ x. p (f x)) xs) ≡ true
-    go (inl e) = or_left (p (f x)) (list_any (λ x. p (f x)) xs) e
-    go (inr e) = or_right (p (f x)) (list_any (λ x. p (f x)) xs) (any-map p f xs e)
+    go :
+        (list_any p (map f xs) ≡ true → list_any (λ x. p (f x)) xs ≡ true)
+        → (p (f x) ≡ true) ⊎ (list_any p (map f xs) ≡ true) → (p (f x) || list_any (λ x. p (f x)) xs) ≡ true
+    go more (inl e) = or_left (p (f x)) (list_any (λ x. p (f x)) xs) e
+    go more (inr e) = or_right (p (f x)) (list_any (λ x. p (f x)) xs) (more e)
 
 any-weaker : {X : Type 0} (p q : X → Bool) → ((x : X) → p x ≡ true → q x ≡ true) → (xs : List X)
     → list_any p xs ≡ true → list_any q xs ≡ true
 any-weaker p q imp [] h = h
-any-weaker p q imp (x ∷ xs) h = go (or_cases (p x) (list_any p xs) h)
+any-weaker p q imp (x ∷ xs) h = go (any-weaker p q imp xs) (or_cases (p x) (list_any p xs) h)
   where
-    go : (p x ≡ true) ⊎ (list_any p xs ≡ true) → (q x || list_any q xs) ≡ true
-    go (inl e) = or_left (q x) (list_any q xs) (imp x e)
-    go (inr e) = or_right (q x) (list_any q xs) (any-weaker p q imp xs e)
+    go :
+        (list_any p xs ≡ true → list_any q xs ≡ true)
+        → (p x ≡ true) ⊎ (list_any p xs ≡ true) → (q x || list_any q xs) ≡ true
+    go more (inl e) = or_left (q x) (list_any q xs) (imp x e)
+    go more (inr e) = or_right (q x) (list_any q xs) (more e)
 
 -- What an outcome by itself may settle to, it may settle to.
 may_settle-alone :
@@ -55,7 +59,7 @@ may_settle-alone (Some event) outcome next h = h
 
 module _ (table : Table) (state next : State) where
   -- What a filled table leads to.
-  Led : Type 0
+  abbrev pub Led : Type 0
   Led = (leads_to table state next ≡ true) ⊎ ((next ≡ I) ⊎ (next ≡ state))
 
   fallback_led : (event : LocalEvent) → may_settle (settled_alone (fallback_local event)).result next ≡ true → next ≡ I

@@ -145,16 +145,19 @@ lowest_at :
     → harm line ≡ Some found → ((other : ℕ) → from ≤ other → other < line → harm other ≡ None)
     → lowest harm from n ≡ Some (found, line)
 lowest_at harm from zero line found low high here before = absurd (omega arith)
-lowest_at harm from (suc n) line found low high here before = go (cases_lt from line)
+lowest_at harm from (suc n) line found low high here before =
+    go (lowest_at harm (suc from) n line found) (cases_lt from line)
   where
     go :
-        (from < line) ⊎ (line ≤ from)
+        (suc from ≤ line → line < suc from + n → harm line ≡ Some found
+        → ((other : ℕ) → suc from ≤ other → other < line → harm other ≡ None)
+        → lowest harm (suc from) n ≡ Some (found, line))
+        → (from < line) ⊎ (line ≤ from)
         → or_later (harm from) from (lowest harm (suc from) n) ≡ Some (found, line)
-    go (inl later) =
+    go more (inl later) =
         rw (before from (omega arith) later)
-        (lowest_at harm (suc from) n line found (omega arith) (omega arith) here
-        (λ other a b. before other (omega arith) b))
-    go (inr first) =
+        (more (omega arith) (omega arith) here (λ other a b. before other (omega arith) b))
+    go more (inr first) =
         let same : from ≡ line = omega arith in
         rw (ap harm same ∙ here) (ap (λ l. Some (found, l)) same)
 
@@ -166,14 +169,16 @@ pub lowest-no_harm :
     (harm : ℕ → Option Harm) (from n : ℕ) → lowest harm from n ≡ None → (line : ℕ) → from ≤ line → line < from + n
     → harm line ≡ None
 lowest-no_harm harm from zero h line low high = absurd (omega arith)
-lowest-no_harm harm from (suc n) h line low high = go (harm from) refl h (cases_lt from line)
+lowest-no_harm harm from (suc n) h line low high =
+    go (λ k. lowest-no_harm harm (suc from) n k line) (harm from) refl h (cases_lt from line)
   where
     go :
-        (o : Option Harm) → harm from ≡ o → or_later o from (lowest harm (suc from) n) ≡ None
+        (lowest harm (suc from) n ≡ None → suc from ≤ line → line < suc from + n → harm line ≡ None)
+        → (o : Option Harm) → harm from ≡ o → or_later o from (lowest harm (suc from) n) ≡ None
         → (from < line) ⊎ (line ≤ from) → harm line ≡ None
-    go (Some found) e k c = cc
-    go None e k (inl later) = lowest-no_harm harm (suc from) n k line later (omega arith)
-    go None e k (inr first) = let same : line ≡ from = omega arith in ap harm same ∙ e
+    go more (Some found) e k c = cc
+    go more None e k (inl later) = more k later (omega arith)
+    go more None e k (inr first) = let same : line ≡ from = omega arith in ap harm same ∙ e
 
 within_low : (harm : ℕ → Option Harm) (lines line : ℕ) → line < lines → harm_within harm lines line ≡ harm line
 within_low harm lines line h = go (nat_le lines line) refl

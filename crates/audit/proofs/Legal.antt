@@ -434,7 +434,7 @@ abbrev pub NotHeldBack : Setup → Configuration → Event → Type 0
 NotHeldBack setup c (Local board before state done) =
     (v : ℕ × State) → displaced setup c.rows board (access_line done.access) state ≡ Some v
     → is_held c.phase board v.0 ≡ false
-NotHeldBack setup c (Drop board line before) = Unit {0}
+NotHeldBack setup c (Drop board dropped before) = Unit {0}
 NotHeldBack setup c (Raise board) = Unit {0}
 NotHeldBack setup c (Grant by winner lines rounds) = Unit {0}
 NotHeldBack setup c (Connect t) = Unit {0}
