@@ -22,3 +22,4 @@ pub mod Agreed
 pub mod Agreement
 pub mod Watching
 pub mod Growing
+pub mod Standing

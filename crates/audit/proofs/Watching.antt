@@ -2,7 +2,7 @@
 use Rattle.std.proofs.Common.{◌≡◌, ℕ, zero, suc, ◌+◌, ◌*◌, ◌/◌, ◌<◌, ◌≤◌, ◌^◌, Bool, true, false, cond, List, [], ◌∷◌, ◌++◌, Some, None, Option, length, ap, refl, sym, subst, subst₂, ◌∙◌, inl, inr, ◌⊎◌, arith, append-nil, length-append, unwrap_or}
 use Rattle.std.proofs.lemmas.List.Recursion.{is_sum_by}
 use Rattle.std.specs.List.{AllByRecursion}
-use Rattle.std.specs.Prelude.{slice_get}
+use Rattle.std.specs.Prelude.{slice_get, ◌==◌, if◌then◌else◌}
 use Rattle.bus_signals.specs.Accesses.{address_of}
 use Rattle.bus_signals.specs.declared.Access.{Access}
 use Rattle.bus_model.specs.Places.{at_place, repeated}
@@ -16,18 +16,19 @@ use Rattle.bus_model.specs.Turns.{Did, Finished, Turn, Waits}
 use Rattle.coherence.proofs.Lists.{all-weaker}
 use Rattle.coherence.proofs.Opening.{sound_opening}
 use Rattle.coherence.proofs.Places.{all-from_places}
-use Rattle.coherence.proofs.Progress.{place_of}
+use Rattle.coherence.proofs.Progress.{line_within, place_of}
+use Rattle.bus_model.specs.Board.{access_line}
+use Rattle.bus_model.specs.Carrying.{done_of, reply_of, source_words}
 use Rattle.audit.specs.declared.finding.Harm.{Harm}
 use Rattle.audit.specs.declared.finding.Finding.{Finding}
-use Rattle.audit.specs.declared.auditing.Auditor.{Auditor}
 use Rattle.audit.specs.Filled.{filled}
 use Rattle.audit.specs.Steps.{after_any, after_any_all}
 use Rattle.audit.specs.Turns.{any_turn, events_of_any}
 use Rattle.audit.specs.Harms.{done_in, first_of_harms, harm_after, harm_at, lines_harm, lowest, reply_harm}
 use Rattle.audit.specs.Touched.{harm_within, lowest_touched, touched}
 use Rattle.audit.specs.First.{first_from, first_harm, found_or}
-use Rattle.audit.specs.Parts.{CountsAreLow, DoneWithin, shown}
-use Rattle.audit.specs.Auditor.{Stands}
+use Rattle.audit.specs.Parts.{CountsAreLow, DoneWithin}
+use Rattle.audit.specs.Auditor.{StandsFor}
 use Rattle.audit.proofs.Agreement.{coherent_harmless}
 use Rattle.audit.proofs.Audits.{first-append, or_then}
 use Rattle.audit.proofs.Charges.{few_events, place_within}
@@ -65,7 +66,9 @@ harmless_after :
     → NoHarm (harm_at setup.memory history c) (line_count setup) → first_from setup history c number events ≡ None
     → NoHarm (harm_at setup.memory (entries_after history events) (after_any_all setup c events)) (line_count setup)
 harmless_after setup history c number [] none h = none
-harmless_after setup history c number (event ∷ events) none h = go (harm_after setup history event next) refl h
+harmless_after setup history c number (event ∷ events) none h =
+    go (λ free k. harmless_after setup (entries_with history event) next (suc number) events free k)
+    (harm_after setup history event next) refl h
   where
     next : Configuration
     next = after_any setup c event
@@ -74,15 +77,17 @@ harmless_after setup history c number (event ∷ events) none h = go (harm_after
     later = first_from setup (entries_with history event) (after_any setup c event) (suc number) events
 
     go :
-        (o : Option (Harm × ℕ)) → harm_after setup history event (after_any setup c event) ≡ o
+        (NoHarm (harm_at setup.memory (entries_with history event) (after_any setup c event)) (line_count setup)
+        → first_from setup (entries_with history event) (after_any setup c event) (suc number) events ≡ None
+        → NoHarm (harm_at setup.memory (entries_after (entries_with history event) events)
+        (after_any_all setup (after_any setup c event) events)) (line_count setup))
+        → (o : Option (Harm × ℕ)) → harm_after setup history event (after_any setup c event) ≡ o
         → found_or number o (first_from setup (entries_with history event) (after_any setup c event) (suc number) events)
         ≡ None
         → NoHarm (harm_at setup.memory (entries_after (entries_with history event) events)
         (after_any_all setup (after_any setup c event) events)) (line_count setup)
-    go (Some found) e k = cc
-    go None e k =
-        harmless_after setup (entries_with history event) next (suc number) events
-        (lines_of_none setup history event next e) k
+    go more (Some found) e k = cc
+    go more None e k = more (lines_of_none setup history event next e) k
 
 -- Where nothing was found no line is harmed.
 pub harmless_now :
@@ -112,18 +117,21 @@ found_next setup journal event well none can =
 
 -- ---- what is known of the state
 
+-- What is kept holds of the auditor's journal.
 pub watched_now :
-    (a : Auditor) → WellFormed a.setup → Stands a → Watched a.setup a.journal.items (shown a.parts)
-watched_now a well h =
-    let w = turns_watched a.setup well [] (opening a.setup) h.boards (watched_opening a.setup well) in
-    let made : Watched a.setup a.journal.items (after_any_all a.setup (opening a.setup) a.journal.items) =
-    subst (λ es. Watched a.setup es (after_any_all a.setup (opening a.setup) es)) (sym h.made) w in
-    subst (Watched a.setup a.journal.items) (sym h.parts) made
+    (setup : Setup) (journal : List Event) (c : Configuration) (flat : List ℕ) (finding : Option Finding)
+    → WellFormed setup → StandsFor setup journal c flat finding → Watched setup journal c
+watched_now setup journal c flat finding well h =
+    let w = turns_watched setup well [] (opening setup) h.boards (watched_opening setup well) in
+    let made : Watched setup journal (after_any_all setup (opening setup) journal) =
+    subst (λ es. Watched setup es (after_any_all setup (opening setup) es)) (sym h.made) w in
+    subst (Watched setup journal) (sym h.parts) made
 
 pub few_now :
-    (a : Auditor) → WellFormed a.setup → Stands a → length a.journal.items ≤ 8 * access_count a.setup
-few_now a well h =
-    let w = watched_now a well h in few_events a.setup a.journal.items (shown a.parts) w.kept w.charged
+    (setup : Setup) (journal : List Event) (c : Configuration) (flat : List ℕ) (finding : Option Finding)
+    → WellFormed setup → StandsFor setup journal c flat finding → length journal ≤ 8 * access_count setup
+few_now setup journal c flat finding well h =
+    let w = watched_now setup journal c flat finding well h in few_events setup journal c w.kept w.charged
 
 -- A board's script is no longer than all together.
 abbrev lengths : List (List Access) → ℕ
@@ -163,5 +171,45 @@ counts_low setup events c well w =
           (λ p h. let f = h.1 in omega (arith, f, few, accesses)) c.boards w.kept.facts.rows.counts;
     }
 
-pub counts_now : (a : Auditor) → WellFormed a.setup → Stands a → CountsAreLow a.parts.boards.items
-counts_now a well h = counts_low a.setup a.journal.items (shown a.parts) well (watched_now a well h)
+pub counts_now :
+    (setup : Setup) (journal : List Event) (c : Configuration) (flat : List ℕ) (finding : Option Finding)
+    → WellFormed setup → StandsFor setup journal c flat finding → CountsAreLow c.boards
+counts_now setup journal c flat finding well h =
+    counts_low setup journal c well (watched_now setup journal c flat finding well h)
+
+-- ---- the addresses of accesses
+
+address_within :
+    (setup : Setup) (boards : List Progress) (board : ℕ) (access : Access) → WellFormed setup
+    → present_access setup boards board ≡ Some access → address_of access < length setup.memory
+address_within setup boards board access well h =
+    let low = line_within setup boards board access well h in
+    let whole : length setup.memory ≡ 4 * line_count setup = well.memory in
+    omega arith
+
+-- An access that is completed is of a word that memory has.
+pub done_within :
+    (setup : Setup) (c : Configuration) (event : Event) → WellFormed setup → Can (filled setup) c event
+    → DoneWithin (length setup.memory) (done_in event)
+done_within setup c (Local board before state done) well can =
+    address_within setup c.boards board done.access well can.present
+done_within setup c (Drop board line before) well can = tt
+done_within setup c (Raise board) well can = tt
+done_within setup c (Grant by winner lines rounds) well can = tt
+done_within setup c (Connect t) well can = tt
+done_within setup c (DataPhase e) well can = of (present_access setup c.boards e.master) refl can.1.done
+  where
+    of :
+        (o : Option Access) → present_access setup c.boards e.master ≡ o
+        → e.done ≡ done_of o e.line (source_words c e.master e.line e.source)
+        → DoneWithin (length setup.memory) e.done
+    of None k d = subst (DoneWithin (length setup.memory)) (sym d) tt
+    of (Some access) k d = subst (DoneWithin (length setup.memory)) (sym d) (on_line (access_line access == e.line))
+      where
+        on_line :
+            (b : Bool)
+            → DoneWithin (length setup.memory) (if b
+            then Some (record { access = access; reply = reply_of access (source_words c e.master e.line e.source) })
+            else None)
+        on_line true = address_within setup c.boards e.master access well k
+        on_line false = tt
