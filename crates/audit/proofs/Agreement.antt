@@ -79,7 +79,7 @@ legal_last :
     (memory : List ℕ) (earlier xs : List Entry) (entry : Entry) → LegalAfter memory earlier (xs ++ entry ∷ [])
     → entry.reply ≡ owed_reply memory (earlier ++ xs) entry.access
 legal_last memory earlier [] entry h =
-    h.0 ∙ ap (λ es. owed_reply memory es entry.access) (sym (append-nil {l = earlier}))
+    h.0 ∙ ap (λ es. owed_reply memory es entry.access) (sym (append-nil earlier))
 legal_last memory earlier (x ∷ xs) entry h =
     legal_last memory (earlier ++ x ∷ []) xs entry h.1
     ∙ ap (λ es. owed_reply memory es entry.access) (append_assoc earlier (x ∷ []) xs)

@@ -125,7 +125,7 @@ pub turns_audit :
     → audit_turns (record { setup = setup; journal = journal; finding = None }) boards
     ≡ audit_of setup (journal ++ events_of_any setup (after_any_all setup (opening setup) journal) boards)
 turns_audit setup journal [] none =
-    let all : journal ++ [] ≡ journal = append-nil in
+    let all : journal ++ [] ≡ journal = append-nil journal in
     sym (ap (audit_of setup) all ∙ (λ i. record { setup = setup; journal = up_to (none i) journal; finding = none i }))
 turns_audit setup journal (board ∷ boards) none =
     go (λ j e. turns_audit setup j boards e) (any_turn setup (after_any_all setup (opening setup) journal) board)

@@ -3,6 +3,9 @@ pub mod Scans
 pub mod Asking
 pub mod RowLists
 pub mod Seeing
+pub mod Picking
+pub mod Granting
+pub mod MemoryLines
 pub mod Courses
 pub mod Spending
 pub mod Cells
