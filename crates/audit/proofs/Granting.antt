@@ -32,7 +32,7 @@ pub numbers-more :
     → numbers_among setup boards (suc n)
     ≡ numbers_among setup boards n ++ cond (is_raised boards (suc n)) (number_of setup (suc n) ∷ []) []
 numbers-more setup boards n h =
-    ap (λ places. map (λ board. number_of setup board) (filter (λ board. is_raised boards board) places))
+    ap (λ (places : List ℕ). map (λ board. number_of setup board) (filter (λ board. is_raised boards board) places))
     (places-more 1 n setup.boards h ∙ ap (λ (k : ℕ). take n (places_from 1 setup.boards) ++ k ∷ []) (omega arith))
     ∙ ap (map (λ board. number_of setup board))
     (filter-append (λ board. is_raised boards board) (take n (board_places setup)) (suc n ∷ []))
@@ -43,5 +43,5 @@ pub numbers-all :
     → numbers_among setup boards n
     ≡ map (λ board. number_of setup board) (filter (λ board. is_raised boards board) (board_places setup))
 numbers-all setup boards n h =
-    ap (λ places. map (λ board. number_of setup board) (filter (λ board. is_raised boards board) places))
+    ap (λ (places : List ℕ). map (λ board. number_of setup board) (filter (λ board. is_raised boards board) places))
     (take_all n (places_from 1 setup.boards) (omega (arith, length-places 1 setup.boards)))

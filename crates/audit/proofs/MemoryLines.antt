@@ -20,7 +20,7 @@ line-next (a ∷ b ∷ c ∷ e ∷ rest) (suc n) d h =
     let q : 4 * suc n + 1 ≡ suc (suc (suc (suc (4 * n + 1)))) = omega arith in
     let r : 4 * suc n + 2 ≡ suc (suc (suc (suc (4 * n + 2)))) = omega arith in
     let s : 4 * suc n + 3 ≡ suc (suc (suc (suc (4 * n + 3)))) = omega arith in
-    rw (p, q, r, s) (ap (λ lines. (a ∷ b ∷ c ∷ e ∷ []) ∷ lines) (line-next rest n d (omega arith)))
+    rw (q, r, s, p) (ap (λ lines. (a ∷ b ∷ c ∷ e ∷ []) ∷ lines) (line-next rest n d (omega arith)))
 
 -- One more line.
 pub line-more :

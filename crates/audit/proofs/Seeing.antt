@@ -36,6 +36,12 @@ or-none : (a : Bool) → a ≡ (a || false)
 or-none true = refl
 or-none false = refl
 
+zero-step : (n : ℕ) → n ≡ n + 0
+zero-step n = omega arith
+
+copy-step : (n m : ℕ) → n + 1 + m ≡ n + suc m
+copy-step n m = omega arith
+
 owner-step : (n m : ℕ) (b : Bool) → n + (if b then 1 else 0) + m ≡ n + (cond b 1 0 + m)
 owner-step n m true = omega arith
 owner-step n m false = omega arith
@@ -48,11 +54,10 @@ sees-by :
 sees-by line latest seen row rows true more =
     let i = more (with_seen latest seen row) in
     let rest = rows_of_line rows line in
-    let count = i.copies in
     record {
       owners = i.owners ∙ owner-step seen.owners (owner_count rest) (owns row.state);
       alone = i.alone ∙ or-step seen.alone (is_alone row.state) (has_alone rest);
-      copies = omega arith;
+      copies = i.copies ∙ copy-step seen.copies (length rest);
       stale = i.stale ∙ stale-step seen.stale (same_words row.words latest) (all_latest latest rest);
     }
 sees-by line latest seen row rows false more = more seen
@@ -62,9 +67,9 @@ pub sees :
     (line : ℕ) (latest : List ℕ) (rows : List Row) (seen : Seen)
     → SeesAll latest seen (seen_after line latest seen rows) (rows_of_line rows line)
 sees line latest [] seen = record {
-  owners = omega arith;
+  owners = zero-step seen.owners;
   alone = or-none seen.alone;
-  copies = omega arith;
+  copies = zero-step seen.copies;
   stale = or-none seen.stale;
 }
 sees line latest (row ∷ rows) seen =

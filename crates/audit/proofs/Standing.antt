@@ -38,7 +38,7 @@ module _
   made_next : journal ++ event ∷ [] ≡ events_of_any setup (opening setup) (h.boards ++ board ∷ [])
   made_next =
       sym (any_turns-append setup (opening setup) h.boards (board ∷ [])
-      ∙ ap (λ es. es ++ events_of_any setup (after_any_all setup (opening setup) es) (board ∷ [])) (sym h.made)
+      ∙ ap (λ (es : List Event). es ++ events_of_any setup (after_any_all setup (opening setup) es) (board ∷ [])) (sym h.made)
       ∙ ap (λ t. journal ++ any_and_rest setup (after_any_all setup (opening setup) journal) [] t) did)
 
   led_now : next ≡ after_any setup (after_any_all setup (opening setup) journal) event
@@ -102,7 +102,7 @@ module _
 pub audit_holds :
     (setup : Setup) (schedule : List ℕ) (journal : List Event) (c : Configuration) (flat : List ℕ)
     (finding : Option Finding) → WellFormed setup → StandsFor setup journal c flat finding
-    → record { setup = setup; journal = journal; finding = finding } ≡ audited setup schedule
+    → audited setup schedule ≡ record { setup = setup; journal = journal; finding = finding }
     → Audited (record { setup = setup; journal = journal; finding = finding })
 audit_holds setup schedule journal c flat finding well h e = record {
   few = few_now setup journal c flat finding well h;
@@ -112,8 +112,8 @@ audit_holds setup schedule journal c flat finding well h e = record {
   where
     whole : finding ≡ None → journal ≡ any_played setup schedule
     whole none =
-        ap (λ (a : Audit). a.journal) e
-        ∙ ap (λ o. up_to o (any_played setup schedule)) (sym (ap (λ (a : Audit). a.finding) e) ∙ none)
+        sym (ap (λ (a : Audit). a.journal) e)
+        ∙ ap (λ o. up_to o (any_played setup schedule)) (ap (λ (a : Audit). a.finding) e ∙ none)
 
 -- The turns of a schedule and then rounds come to the audit.
 pub audit_made :
