@@ -89,9 +89,7 @@ pub fn count_in_set(rows: &[Held], board: BoardNo, sets: u16, line: LineNo) -> u
 {
     let mut count = 0;
     for row in rows {
-        if is_in_set(row, board, sets, line) {
-            count += 1;
-        }
+        count += usize::from(is_in_set(row, board, sets, line));
     }
     count
 }
@@ -106,6 +104,25 @@ fn older(first: Option<Held>, row: &Held) -> Held
     }
 }
 
+/// The row that was filled first, of the first ones of a list and the next if it is in the set.
+fn older_in_set(
+    first: Option<Held>,
+    row: &Held,
+    board: BoardNo,
+    sets: u16,
+    line: LineNo,
+) -> Option<Held>
+    requires { 1 ≤ sets }
+    ensures { result
+        ≡ (if is_in_set board sets line row.now then Some (older_of first row.now) else first) }
+{
+    if is_in_set(row, board, sets, line) {
+        Some(older(first, row))
+    } else {
+        first
+    }
+}
+
 /// The row of a board in the set of a line that was filled first.
 pub fn oldest_in_set(rows: &[Held], board: BoardNo, sets: u16, line: LineNo) -> Option<Held>
     requires { 1 ≤ sets }
@@ -113,9 +130,7 @@ pub fn oldest_in_set(rows: &[Held], board: BoardNo, sets: u16, line: LineNo) -> 
 {
     let mut first = None;
     for row in rows {
-        if is_in_set(row, board, sets, line) {
-            first = Some(older(first, row));
-        }
+        first = older_in_set(first, row, board, sets, line);
     }
     first
 }

@@ -1,8 +1,8 @@
 //! What is wrong after an event, looked for on the lines that it touched.
 
-ghost use Rattle.std.specs.Prelude.{◌≡◌, ◌+◌, ◌*◌, ◌^◌, ◌<◌, ◌≤◌, ◌∷◌, [], ℕ, List, length, slice_index};
+ghost use Rattle.std.specs.Prelude.{◌≡◌, ◌+◌, ◌*◌, ◌^◌, ◌<◌, ◌≤◌, ◌∷◌, [], ℕ, List, if◌then◌else◌, length, slice_index};
 ghost use Rattle.flat_memory.specs.Flats.{IsLatest};
-ghost use Rattle.bus_model.specs.Configuration.{rows_of_line};
+ghost use Rattle.bus_model.specs.Configuration.{is_of_line, rows_of_line};
 ghost use Rattle.bus_model.specs.Entries.{Entry, entries_with, with_entry};
 ghost use Rattle.audit.specs.Parts.{shown, DoneWithin};
 ghost use Rattle.audit.specs.Harms.{line_harm, harm_at, or_later, done_in, reply_harm, first_of_harms};
@@ -84,6 +84,22 @@ fn with_row(seen: Seen, row: &Held, latest: [u32; 4]) -> Seen
     }
 }
 
+/// What was seen, with one more row if it is of the line.
+fn with_row_of_line(seen: Seen, row: &Held, line: LineNo, latest: [u32; 4]) -> Seen
+    requires owners { seen.owners < 2 ^ 63 }
+    requires copies { seen.copies < 2 ^ 63 }
+    ensures seen { result
+        ≡ (if is_of_line line row.now then with_seen latest seen row.now else seen) }
+    ensures owners { result.owners ≤ seen.owners + 1 }
+    ensures copies { result.copies ≤ seen.copies + 1 }
+{
+    if row.line.0 == line.0 {
+        with_row(seen, row, latest)
+    } else {
+        seen
+    }
+}
+
 /// What is seen of the rows of a line.
 fn see(rows: &[Held], line: LineNo, latest: [u32; 4]) -> Seen
     ensures { result ≡ seen_after line latest unseen rows.now }
@@ -95,9 +111,7 @@ fn see(rows: &[Held], line: LineNo, latest: [u32; 4]) -> Seen
         stale: false,
     };
     for row in rows {
-        if row.line.0 == line.0 {
-            seen = with_row(seen, row, latest);
-        }
+        seen = with_row_of_line(seen, row, line, latest);
     }
     seen
 }
