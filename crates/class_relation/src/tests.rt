@@ -31,7 +31,7 @@ fn names_begin_with_a_letter(rt: HostRuntime) {
 #[test]
 fn cells_keep_their_alternatives(rt: HostRuntime) -> Result<(), Fail> {
     let name = Name::of(b"x").ok_or("name")?;
-    let mut table = Table::empty(rt.alloc(), name);
+    let mut table = Table::empty(rt.alloc(), name, 1);
     let read = LocalAction {
         result: Outcome::Fixed(State::I),
         bus: Some(BusEvent::Urd),

@@ -13,7 +13,7 @@ use Rattle.bus_signals.specs.declared.Access.{Access}
 use Rattle.bus_signals.specs.Accesses.{address_of}
 use Rattle.moesi_state.specs.declared.State.{State}
 use Rattle.moesi_state.specs.declared.State.TheVariants.{M, O, E, S, I}
-use Rattle.class_relation.specs.Tables.{Table, empty_table}
+use Rattle.class_relation.specs.Tables.{Table, empty_table, no_table}
 use Rattle.table_check.specs.declared.boards.BoardSpec.{BoardSpec}
 use Rattle.table_check.specs.declared.boards.Shape.{Shape}
 use Rattle.table_check.specs.declared.boards.Shape.TheVariants.{Plain, Cached}
@@ -212,7 +212,7 @@ stays t only = go (is_reached t M) (is_reached t O) (is_reached t E) (is_reached
 found_there :
     (ts : List Table) (name : List ℕ) → place_of ts name < length ts
     → found_name (map named ts) name
-    ≡ Some (place_of ts name, stays_invalid (get_or ts (place_of ts name) (empty_table [])))
+    ≡ Some (place_of ts name, stays_invalid (get_or ts (place_of ts name) no_table))
 found_there [] name lt = absurd (omega arith)
 found_there (t ∷ ts) name lt = go (bytes_eq name t.name) refl (found_there ts name) lt
   where
@@ -220,15 +220,15 @@ found_there (t ∷ ts) name lt = go (bytes_eq name t.name) refl (found_there ts 
         (b : Bool) → bytes_eq name t.name ≡ b
         → (place_of ts name < length ts
         → found_name (map named ts) name
-        ≡ Some (place_of ts name, stays_invalid (get_or ts (place_of ts name) (empty_table []))))
+        ≡ Some (place_of ts name, stays_invalid (get_or ts (place_of ts name) no_table)))
         → cond b 0 (place_of ts name + 1) < length (t ∷ ts)
         → found_name (map named (t ∷ ts)) name
         ≡ Some
-        (place_of (t ∷ ts) name, stays_invalid (get_or (t ∷ ts) (place_of (t ∷ ts) name) (empty_table [])))
+        (place_of (t ∷ ts) name, stays_invalid (get_or (t ∷ ts) (place_of (t ∷ ts) name) no_table))
     go true h rest lt = rw h refl
     go false h rest lt =
         let n : place_of ts name + 1 ≡ suc (place_of ts name) = omega arith in
-        let at = ap (λ (k : ℕ). get_or (t ∷ ts) k (empty_table [])) n in
+        let at = ap (λ (k : ℕ). get_or (t ∷ ts) k no_table) n in
         rw (h, rest (omega arith)) (ap (λ (u : Table). Some (place_of ts name + 1, stays_invalid u)) (sym at))
 
 plainly : (t : Table) (shape : Shape) → checked.ShapeFits t shape → shape ≡ Plain → stays_invalid t ≡ true
@@ -275,11 +275,11 @@ one_board :
     → read_rows line_at (body s) (board_rows b)
     ≡ Ok (body (record s { boards = s.boards ++ board_of s.tables b ∷ []; scripts = s.scripts ++ b.script ∷ [] }))
 one_board s w b same fits few next new there count within =
-    let t : Table = get_or s.tables (place_of s.tables b.table) (empty_table []) in
+    let t : Table = get_or s.tables (place_of s.tables b.table) no_table in
     let lt : place_of s.tables b.table < length s.tables =
     omega (arith, there.table, ap (λ (v : List Table). length v) same) in
     let shape : checked.ShapeFits t b.shape =
-    subst (λ (v : List Table). checked.ShapeFits (get_or v (place_of s.tables b.table) (empty_table [])) b.shape)
+    subst (λ (v : List Table). checked.ShapeFits (get_or v (place_of s.tables b.table) no_table) b.shape)
     same there.shape in
     let line = board_read s b (stays_invalid t) fits few next new (found_there s.tables b.table lt)
     (plainly t b.shape shape) (framed t b.shape shape) in

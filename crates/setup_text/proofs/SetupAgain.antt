@@ -16,7 +16,7 @@ use Rattle.bus_signals.specs.declared.Access.{Access}
 use Rattle.bus_signals.specs.declared.LocalEvent.{LocalEvent}
 use Rattle.bus_signals.specs.declared.LocalEvent.TheVariants as events
 use Rattle.class_words.specs.Words.{local_event_word, local_event_of}
-use Rattle.class_relation.specs.Tables.{Table, empty_table}
+use Rattle.class_relation.specs.Tables.{Table, empty_table, no_table}
 use Rattle.table_check.specs.declared.boards.BoardSpec.{BoardSpec}
 use Rattle.table_check.specs.declared.boards.Shape.{Shape}
 use Rattle.table_check.specs.declared.boards.Shape.TheVariants.{Plain, Cached}
@@ -184,7 +184,7 @@ board_again n ws ts bs b none s =
     let shape : IsShape known.0 b.shape =
     (let P : Bool → Type 0 = λ x. IsShape x b.shape in
     subst P (sym flag.1)
-    (shape_is (get_or (tables_of ts) (place_of (tables_of ts) b.table) (empty_table [])) b.shape board.shape)) in
+    (shape_is (get_or (tables_of ts) (place_of (tables_of ts) b.table) no_table) b.shape board.shape)) in
     let new : has_number boards b.number ≡ false =
     new_number_is boards b.number
     (λ k d low. pairs_last (λ (a c : BoardSpec). a.number ≢ c.number) boards (spec_of ts b) d draft.numbers k low)

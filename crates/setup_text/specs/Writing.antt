@@ -6,7 +6,7 @@ use Rattle.fb_text.specs.Unread.{Line, unread, numbered}
 use Rattle.fb_text.specs.Places.{Item, items, lines_places}
 use Rattle.fb_text.specs.Written.{lines_bytes}
 use Rattle.bus_signals.specs.declared.Access.{Access}
-use Rattle.class_relation.specs.Tables.{Table, empty_table, IsWhole}
+use Rattle.class_relation.specs.Tables.{Table, no_table, IsWhole}
 use Rattle.table_check.specs.declared.boards.BoardSpec.{BoardSpec}
 use Rattle.setup.specs.Setup.{Setup, WellFormed, line_count, access_count}
 use Rattle.table_text.specs.Writing.{cells_of, table_room}
@@ -31,7 +31,7 @@ abbrev pub text_of_board : List Table → ℕ → BoardSpec → List Access → 
 text_of_board tables place b script = record {
   place = place;
   number = b.number;
-  table = (slice_index_or tables b.table (empty_table [])).name;
+  table = (slice_index_or tables b.table no_table).name;
   shape = b.shape;
   choose = b.choose;
   script = script;

@@ -17,7 +17,7 @@ fn uncached(
     flush: Option<BusEvent>,
 ) -> Result<Table, Fail> {
     let name = Name::of(b"un").ok_or("name")?;
-    let mut table = Table::empty(alloc, name);
+    let mut table = Table::empty(alloc, name, 1);
     let cells: [(LocalEvent, State, Option<BusEvent>); 4] = [
         (Read, read.0, read.1),
         (Write, I, Some(Uwr)),

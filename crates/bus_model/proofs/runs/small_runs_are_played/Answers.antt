@@ -1,4 +1,5 @@
 use Rattle.bus_model.proofs.WorkedRuns
+use Rattle.bus_model.proofs.WorkedSwaps
 use Rattle.bus_model.proofs.WorkedRoom
 use Rattle.bus_model.proofs.WorkedCopies
 use Rattle.bus_model.proofs.runs.small_runs_are_played.Goals as goal
@@ -35,3 +36,9 @@ returns-clause-clean_victim c = WorkedCopies.clean_victim_plays
 
 pub returns-clause-captured : goal.returns-clause-captured
 returns-clause-captured c = WorkedCopies.captured_plays
+
+pub returns-clause-owned_swap : goal.returns-clause-owned_swap
+returns-clause-owned_swap c = WorkedSwaps.owned_swap_plays
+
+pub returns-clause-lock : goal.returns-clause-lock
+returns-clause-lock c = WorkedSwaps.lock_plays
