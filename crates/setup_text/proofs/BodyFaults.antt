@@ -58,6 +58,7 @@ word_stage s t others (next (access (accesses.Read x) f h some)) = absurd (no_ro
 word_stage s t others (next (access (accesses.Write x y) f h some)) = absurd (no_row (codes "word") h refl refl)
 word_stage s t others (next (access (accesses.Pass x) f h some)) = absurd (no_row (codes "word") h refl refl)
 word_stage s t others (next (access (accesses.Flush x) f h some)) = absurd (no_row (codes "word") h refl refl)
+word_stage s t others (next (access (accesses.Swap x y) f h some)) = absurd (no_row (codes "word") h refl refl)
 word_stage s t others (next (ends h none)) = absurd (no_row (codes "word") h refl refl)
 
 -- a word that begins no line
@@ -85,6 +86,8 @@ no_first s w t others a b c d e f = go f
         no_event events.Write (first_is (codes "write") (decimal x ∷ decimal y ∷ []) h)
     go (next (access (accesses.Pass x) f h some)) = no_event events.Pass (first_is (codes "pass") (decimal x ∷ []) h)
     go (next (access (accesses.Flush x) f h some)) = no_event events.Flush (first_is (codes "flush") (decimal x ∷ []) h)
+    go (next (access (accesses.Swap x y) f h some)) =
+        no_event events.Swap (first_is (codes "swap") (decimal x ∷ decimal y ∷ []) h)
     go (next (ends h none)) = differ (first_is (codes "end") [] h) d
 
 no_empty : (s : SetupText) (others : List Words) → Follows s [] others → ⊥
@@ -95,6 +98,7 @@ no_empty s others (next (access (accesses.Read x) f h some)) = cc
 no_empty s others (next (access (accesses.Write x y) f h some)) = cc
 no_empty s others (next (access (accesses.Pass x) f h some)) = cc
 no_empty s others (next (access (accesses.Flush x) f h some)) = cc
+no_empty s others (next (access (accesses.Swap x y) f h some)) = cc
 no_empty s others (next (ends h none)) = cc
 
 begins_none : (s : SetupText) → StandsSoFar s → Begins s []
@@ -210,6 +214,7 @@ module _ (rest : List Place) (line : ℕ) where
         go (inr (inr (inr ((events.Write, x), e, y)))) = absurd (differ x refl)
         go (inr (inr (inr ((events.Pass, x), e, y)))) = absurd (differ x refl)
         go (inr (inr (inr ((events.Flush, x), e, y)))) = absurd (differ x refl)
+        go (inr (inr (inr ((events.Swap, x), e, y)))) = absurd (differ x refl)
 
     few_tables : length (tables_of ts) ≤ 16
     few_tables = let sound = h.sound in let tables = sound.tables in tables.few
@@ -418,6 +423,32 @@ module _ (rest : List Place) (line : ℕ) where
           (λ x y a b. begins_there (accesses.Write x y) (codes "write" ∷ decimal x ∷ decimal y ∷ []) [] (a, b) refl)
           (λ t others f. expects_access events.Write t others f) l a e
 
+      swap_stops :
+          (l : Words) (k : SetupKind) → value_line (length (setup_of (text n ws ts bs)).memory) l ≡ Err k
+          → Faulty (text n ws ts bs) line (codes "swap" ∷ l) rest k
+      swap_stops l k e =
+          two_stops (text n ws ts bs) h rest line (codes "swap") refl
+          (begins_there (accesses.Swap 0 0) (codes "swap" ∷ []) (decimal 0 ∷ decimal 0 ∷ [])
+          (omega arith, omega arith) refl) (event_free events.Swap)
+          (λ x a.
+          begins_there (accesses.Swap x 0) (codes "swap" ∷ decimal x ∷ []) (decimal 0 ∷ []) (a, omega arith)
+          refl) (λ x. refl) (λ x y. refl)
+          (λ x y a b. begins_there (accesses.Swap x y) (codes "swap" ∷ decimal x ∷ decimal y ∷ []) [] (a, b) refl)
+          (λ t others f. expects_access events.Swap t others f) l k e
+
+      swap_passes :
+          (l : Words) (a : ℕ × ℕ) → value_line (length (setup_of (text n ws ts bs)).memory) l ≡ Ok a
+          → FreeHere (text n ws ts bs) (codes "swap" ∷ l)
+      swap_passes l a e =
+          two_passes (text n ws ts bs) h rest line (codes "swap") refl
+          (begins_there (accesses.Swap 0 0) (codes "swap" ∷ []) (decimal 0 ∷ decimal 0 ∷ [])
+          (omega arith, omega arith) refl) (event_free events.Swap)
+          (λ x a.
+          begins_there (accesses.Swap x 0) (codes "swap" ∷ decimal x ∷ []) (decimal 0 ∷ []) (a, omega arith)
+          refl) (λ x. refl) (λ x y. refl)
+          (λ x y a b. begins_there (accesses.Swap x y) (codes "swap" ∷ decimal x ∷ decimal y ∷ []) [] (a, b) refl)
+          (λ t others f. expects_access events.Swap t others f) l a e
+
   module _ (n : ℕ) (ws : List (ℕ × ℕ)) (ts : List TableText) (bs : List BoardText) (h : StandsSoFar (text n ws ts bs))
       (some : 0 < length bs) where
     there :
@@ -430,6 +461,8 @@ module _ (rest : List Place) (line : ℕ) where
         there (accesses.Write 0 0) (codes "write" ∷ []) (decimal 0 ∷ decimal 0 ∷ []) (omega arith, omega arith) refl
     event_begins events.Pass = there (accesses.Pass 0) (codes "pass" ∷ []) (decimal 0 ∷ []) (omega arith) refl
     event_begins events.Flush = there (accesses.Flush 0) (codes "flush" ∷ []) (decimal 0 ∷ []) (omega arith) refl
+    event_begins events.Swap =
+        there (accesses.Swap 0 0) (codes "swap" ∷ []) (decimal 0 ∷ decimal 0 ∷ []) (omega arith, omega arith) refl
 
     event_stops :
         access_count (setup_of (text n ws ts bs)) < 100000 → (event : LocalEvent) (l : Words) (k : SetupKind)
@@ -468,6 +501,14 @@ module _ (rest : List Place) (line : ℕ) where
         go (Ok a) r e = absurd cc
         go (Err j) r e =
             let same : j ≡ k = cc in flush_stops n ws ts bs h some few l k (r ∙ ap (λ (x : SetupKind). Err x) same)
+    event_stops few events.Swap l k e = go (value_line (length (setup_of (text n ws ts bs)).memory) l) refl e
+      where
+        go :
+            (x : Result (ℕ × ℕ) SetupKind) → value_line (length (setup_of (text n ws ts bs)).memory) l ≡ x
+            → two_access events.Swap x ≡ Err k → Faulty (text n ws ts bs) line (codes "swap" ∷ l) rest k
+        go (Ok a) r e = absurd cc
+        go (Err j) r e =
+            let same : j ≡ k = cc in swap_stops n ws ts bs h some few l k (r ∙ ap (λ (x : SetupKind). Err x) same)
 
     event_passes :
         access_count (setup_of (text n ws ts bs)) < 100000 → (event : LocalEvent) (l : Words) (a : Access)
@@ -501,6 +542,13 @@ module _ (rest : List Place) (line : ℕ) where
             (x : Result ℕ SetupKind) → address_line (length (setup_of (text n ws ts bs)).memory) l ≡ x
             → one_access events.Flush x ≡ Ok a → FreeHere (text n ws ts bs) (codes "flush" ∷ l)
         go (Ok x) r e = flush_passes n ws ts bs h some few l x r
+        go (Err j) r e = absurd cc
+    event_passes few events.Swap l a e = go (value_line (length (setup_of (text n ws ts bs)).memory) l) refl e
+      where
+        go :
+            (x : Result (ℕ × ℕ) SetupKind) → value_line (length (setup_of (text n ws ts bs)).memory) l ≡ x
+            → two_access events.Swap x ≡ Ok a → FreeHere (text n ws ts bs) (codes "swap" ∷ l)
+        go (Ok x) r e = swap_passes n ws ts bs h some few l x r
         go (Err j) r e = absurd cc
 
   access_stops :

@@ -108,12 +108,14 @@ no_access_board (accesses.Read x) b h = cc
 no_access_board (accesses.Write x y) b h = cc
 no_access_board (accesses.Pass x) b h = cc
 no_access_board (accesses.Flush x) b h = cc
+no_access_board (accesses.Swap x y) b h = cc
 
 no_access_end : (a : Access) → access_row a ≡ end_row → ⊥
 no_access_end (accesses.Read x) h = cc
 no_access_end (accesses.Write x y) h = cc
 no_access_end (accesses.Pass x) h = cc
 no_access_end (accesses.Flush x) h = cc
+no_access_end (accesses.Swap x y) h = cc
 
 abbrev boards_rows : List BoardText → List Words
 boards_rows [] = []

@@ -116,6 +116,7 @@ word_is_free s k (inr (inr (inr ((events.Read, h), e, x)))) = differ h refl
 word_is_free s k (inr (inr (inr ((events.Write, h), e, x)))) = differ h refl
 word_is_free s k (inr (inr (inr ((events.Pass, h), e, x)))) = differ h refl
 word_is_free s k (inr (inr (inr ((events.Flush, h), e, x)))) = differ h refl
+word_is_free s k (inr (inr (inr ((events.Swap, h), e, x)))) = differ h refl
 
 pub board_is_free : (s : SetupText) → length (setup_of s).boards < 16 → FirstFree s (codes "board")
 board_is_free s few k (inl h) = differ h.0 refl
@@ -125,6 +126,7 @@ board_is_free s few k (inr (inr (inr ((events.Read, h), e, x)))) = differ h refl
 board_is_free s few k (inr (inr (inr ((events.Write, h), e, x)))) = differ h refl
 board_is_free s few k (inr (inr (inr ((events.Pass, h), e, x)))) = differ h refl
 board_is_free s few k (inr (inr (inr ((events.Flush, h), e, x)))) = differ h refl
+board_is_free s few k (inr (inr (inr ((events.Swap, h), e, x)))) = differ h refl
 
 pub end_is_free : (s : SetupText) → 0 < length (setup_of s).boards → FirstFree s (codes "end")
 end_is_free s some k (inl h) = differ h.0 refl
@@ -134,6 +136,7 @@ end_is_free s some k (inr (inr (inr ((events.Read, h), e, x)))) = differ h refl
 end_is_free s some k (inr (inr (inr ((events.Write, h), e, x)))) = differ h refl
 end_is_free s some k (inr (inr (inr ((events.Pass, h), e, x)))) = differ h refl
 end_is_free s some k (inr (inr (inr ((events.Flush, h), e, x)))) = differ h refl
+end_is_free s some k (inr (inr (inr ((events.Swap, h), e, x)))) = differ h refl
 
 no_event :
     (event : LocalEvent)
@@ -143,6 +146,7 @@ no_event events.Read = (λ h. differ h refl, λ h. differ h refl, λ h. differ h
 no_event events.Write = (λ h. differ h refl, λ h. differ h refl, λ h. differ h refl)
 no_event events.Pass = (λ h. differ h refl, λ h. differ h refl, λ h. differ h refl)
 no_event events.Flush = (λ h. differ h refl, λ h. differ h refl, λ h. differ h refl)
+no_event events.Swap = (λ h. differ h refl, λ h. differ h refl, λ h. differ h refl)
 
 pub event_is_free :
     (s : SetupText) (event : LocalEvent) → access_count (setup_of s) < 100000 → FirstFree s (local_event_word event)
@@ -351,6 +355,7 @@ only_word s t others (next (access (accesses.Read x) f h some)) = absurd (no_row
 only_word s t others (next (access (accesses.Write x y) f h some)) = absurd (no_row (codes "word") h refl refl)
 only_word s t others (next (access (accesses.Pass x) f h some)) = absurd (no_row (codes "word") h refl refl)
 only_word s t others (next (access (accesses.Flush x) f h some)) = absurd (no_row (codes "word") h refl refl)
+only_word s t others (next (access (accesses.Swap x y) f h some)) = absurd (no_row (codes "word") h refl refl)
 only_word s t others (next (ends h none)) = absurd (no_row (codes "word") h refl refl)
 
 pub only_head :
@@ -363,6 +368,7 @@ only_head s t others (next (access (accesses.Read x) f h some)) = absurd (no_row
 only_head s t others (next (access (accesses.Write x y) f h some)) = absurd (no_row (codes "table") h refl refl)
 only_head s t others (next (access (accesses.Pass x) f h some)) = absurd (no_row (codes "table") h refl refl)
 only_head s t others (next (access (accesses.Flush x) f h some)) = absurd (no_row (codes "table") h refl refl)
+only_head s t others (next (access (accesses.Swap x y) f h some)) = absurd (no_row (codes "table") h refl refl)
 only_head s t others (next (ends h none)) = absurd (no_row (codes "table") h refl refl)
 
 pub only_board :
@@ -375,6 +381,7 @@ only_board s t others (next (access (accesses.Read x) f h some)) = absurd (no_ro
 only_board s t others (next (access (accesses.Write x y) f h some)) = absurd (no_row (codes "board") h refl refl)
 only_board s t others (next (access (accesses.Pass x) f h some)) = absurd (no_row (codes "board") h refl refl)
 only_board s t others (next (access (accesses.Flush x) f h some)) = absurd (no_row (codes "board") h refl refl)
+only_board s t others (next (access (accesses.Swap x y) f h some)) = absurd (no_row (codes "board") h refl refl)
 only_board s t others (next (ends h none)) = absurd (no_row (codes "board") h refl refl)
 
 pub only_end : (s : SetupText) (t : Words) (others : List Words) → Follows s (codes "end" ∷ t) others → t ≡ []
@@ -385,6 +392,7 @@ only_end s t others (next (access (accesses.Read x) f h some)) = absurd (no_row 
 only_end s t others (next (access (accesses.Write x y) f h some)) = absurd (no_row (codes "end") h refl refl)
 only_end s t others (next (access (accesses.Pass x) f h some)) = absurd (no_row (codes "end") h refl refl)
 only_end s t others (next (access (accesses.Flush x) f h some)) = absurd (no_row (codes "end") h refl refl)
+only_end s t others (next (access (accesses.Swap x y) f h some)) = absurd (no_row (codes "end") h refl refl)
 only_end s t others (next (ends h none)) = cc
 
 -- the tail of an access's line
@@ -393,6 +401,7 @@ EventTail events.Read t = (x : ℕ) × (x < 2 ^ 32) × (t ≡ decimal x ∷ [])
 EventTail events.Write t = (x : ℕ) × (y : ℕ) × (x < 2 ^ 32) × (y < 2 ^ 32) × (t ≡ decimal x ∷ decimal y ∷ [])
 EventTail events.Pass t = (x : ℕ) × (x < 2 ^ 32) × (t ≡ decimal x ∷ [])
 EventTail events.Flush t = (x : ℕ) × (x < 2 ^ 32) × (t ≡ decimal x ∷ [])
+EventTail events.Swap t = (x : ℕ) × (y : ℕ) × (x < 2 ^ 32) × (y < 2 ^ 32) × (t ≡ decimal x ∷ decimal y ∷ [])
 
 row_tail :
     (event : LocalEvent) (a : Access) (t : Words) → AccessFits a → local_event_word event ∷ t ≡ access_row a
@@ -401,18 +410,27 @@ row_tail events.Read (accesses.Read x) t f h = (x, f, cc)
 row_tail events.Read (accesses.Write x y) t f h = absurd (no_row (codes "read") h refl refl)
 row_tail events.Read (accesses.Pass x) t f h = absurd (no_row (codes "read") h refl refl)
 row_tail events.Read (accesses.Flush x) t f h = absurd (no_row (codes "read") h refl refl)
+row_tail events.Read (accesses.Swap x y) t f h = absurd (no_row (codes "read") h refl refl)
 row_tail events.Write (accesses.Read x) t f h = absurd (no_row (codes "write") h refl refl)
 row_tail events.Write (accesses.Write x y) t f h = (x, y, f.0, f.1, cc)
 row_tail events.Write (accesses.Pass x) t f h = absurd (no_row (codes "write") h refl refl)
 row_tail events.Write (accesses.Flush x) t f h = absurd (no_row (codes "write") h refl refl)
+row_tail events.Write (accesses.Swap x y) t f h = absurd (no_row (codes "write") h refl refl)
 row_tail events.Pass (accesses.Read x) t f h = absurd (no_row (codes "pass") h refl refl)
 row_tail events.Pass (accesses.Write x y) t f h = absurd (no_row (codes "pass") h refl refl)
 row_tail events.Pass (accesses.Pass x) t f h = (x, f, cc)
 row_tail events.Pass (accesses.Flush x) t f h = absurd (no_row (codes "pass") h refl refl)
+row_tail events.Pass (accesses.Swap x y) t f h = absurd (no_row (codes "pass") h refl refl)
 row_tail events.Flush (accesses.Read x) t f h = absurd (no_row (codes "flush") h refl refl)
 row_tail events.Flush (accesses.Write x y) t f h = absurd (no_row (codes "flush") h refl refl)
 row_tail events.Flush (accesses.Pass x) t f h = absurd (no_row (codes "flush") h refl refl)
 row_tail events.Flush (accesses.Flush x) t f h = (x, f, cc)
+row_tail events.Flush (accesses.Swap x y) t f h = absurd (no_row (codes "flush") h refl refl)
+row_tail events.Swap (accesses.Read x) t f h = absurd (no_row (codes "swap") h refl refl)
+row_tail events.Swap (accesses.Write x y) t f h = absurd (no_row (codes "swap") h refl refl)
+row_tail events.Swap (accesses.Pass x) t f h = absurd (no_row (codes "swap") h refl refl)
+row_tail events.Swap (accesses.Flush x) t f h = absurd (no_row (codes "swap") h refl refl)
+row_tail events.Swap (accesses.Swap x y) t f h = (x, y, f.0, f.1, cc)
 
 no_event_row :
     (event : LocalEvent) (v : List ℕ) (t u : Words) → (local_event_word event ≡ v → ⊥)
@@ -424,6 +442,7 @@ event_no_word events.Read h = differ h refl
 event_no_word events.Write h = differ h refl
 event_no_word events.Pass h = differ h refl
 event_no_word events.Flush h = differ h refl
+event_no_word events.Swap h = differ h refl
 
 pub only_access :
     (s : SetupText) (event : LocalEvent) (t : Words) (others : List Words)

@@ -260,6 +260,9 @@ access_read bound event ws access e =
     go events.Flush x h =
         let one = one_read bound ws x h in
         record { words = ap (λ (u : Words). codes "flush" ∷ u) one.0; within = one.1; fits = one.2 }
+    go events.Swap x h =
+        let one = value_line_read bound ws x h in
+        record { words = ap (λ (u : Words). codes "swap" ∷ u) one.0; within = one.1; fits = (one.2, one.3) }
 
 -- the word and the rest of an access's line
 pub record WritesAccess (bound : ℕ) (access : Access) : Type 0 where
@@ -298,6 +301,13 @@ access_reads bound (accesses.Flush a) fits within =
       rest = decimal a ∷ [];
       words = refl;
       reads = rw (address_line_reads bound a within fits) refl;
+    }
+access_reads bound (accesses.Swap a v) fits within =
+    record {
+      event = events.Swap;
+      rest = decimal a ∷ decimal v ∷ [];
+      words = refl;
+      reads = rw (value_line_reads bound a v within fits.0 fits.1) refl;
     }
 
 -- ---- the parts of a board line

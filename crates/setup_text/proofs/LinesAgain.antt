@@ -7,7 +7,7 @@ use Rattle.fb_text.specs.Lines.{is_empty}
 use Rattle.fb_text.specs.Places.{Words}
 use Rattle.fb_text.proofs.Decimal.{number_again}
 use Rattle.bus_signals.specs.declared.Access.{Access}
-use Rattle.bus_signals.specs.declared.Access.TheVariants.{Read, Write, Pass, Flush}
+use Rattle.bus_signals.specs.declared.Access.TheVariants.{Read, Write, Pass, Flush, Swap}
 use Rattle.bus_signals.specs.declared.LocalEvent.TheVariants as events
 use Rattle.bus_signals.specs.Accesses.{kind_of, address_of}
 use Rattle.class_words.specs.Words.{local_event_word}
@@ -86,6 +86,8 @@ access_parts_read bound (Pass addr) ws e within fits =
     let h : decimal addr ∷ [] ≡ ws = cc in rw (← h, address_line_read bound addr within fits) refl
 access_parts_read bound (Flush addr) ws e within fits =
     let h : decimal addr ∷ [] ≡ ws = cc in rw (← h, address_line_read bound addr within fits) refl
+access_parts_read bound (Swap addr v) ws e within fits =
+    let h : decimal addr ∷ decimal v ∷ [] ≡ ws = cc in rw (← h, value_line_read bound addr v within fits.0 fits.1) refl
 
 some_boards : {X : Type 0} (bs : List X) → 1 ≤ length bs → is_empty bs ≡ false
 some_boards [] some = absurd (omega arith)
@@ -122,6 +124,13 @@ access_read s (Flush addr) some few within fits =
       some_boards s.boards some,
       lt-ltb (access_count s) 100000 few,
       access_parts_read (length s.memory) (Flush addr) (decimal addr ∷ []) refl within fits,
+    ) refl
+access_read s (Swap addr v) some few within fits =
+    rw (
+      local_event_again events.Swap,
+      some_boards s.boards some,
+      lt-ltb (access_count s) 100000 few,
+      access_parts_read (length s.memory) (Swap addr v) (decimal addr ∷ decimal v ∷ []) refl within fits,
     ) refl
 
 pub end_read : (s : Setup) → 1 ≤ length s.boards → line_at (body s) end_row ≡ Ok (ended s)

@@ -6,7 +6,7 @@ use Rattle.fb_text.specs.Places.{Words, lines_places, items, text_places, FirstF
 use Rattle.fb_text.specs.Unread.{Line, unread}
 use Rattle.fb_text.proofs.LineLaws.{first_fault}
 use Rattle.bus_signals.specs.declared.LocalEvent.{LocalEvent}
-use Rattle.bus_signals.specs.declared.LocalEvent.TheVariants.{Read, Write, Pass, Flush}
+use Rattle.bus_signals.specs.declared.LocalEvent.TheVariants.{Read, Write, Pass, Flush, Swap}
 use Rattle.class_words.specs.Words.{local_event_word}
 use Rattle.class_relation.specs.Tables.{Table}
 use Rattle.setup.specs.Setup.{Setup}
@@ -69,6 +69,7 @@ judged_first setup w k (inr (inr (inr (h, full, kind)))) = kind ∙ (access h.0 
     access Write = refl
     access Pass = refl
     access Flush = refl
+    access Swap = refl
 
 one_judged :
     (slot : Slot) (setup : Setup) (words : Words) (w : List ℕ) (k j : SetupKind) → JudgedAs slot setup words w k

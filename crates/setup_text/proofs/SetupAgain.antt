@@ -216,6 +216,7 @@ event_line events.Read setup rest = refl
 event_line events.Write setup rest = refl
 event_line events.Pass setup rest = refl
 event_line events.Flush setup rest = refl
+event_line events.Swap setup rest = refl
 
 some_boards :
     (ts : List TableText) (bs : List BoardText) (b : BoardText)

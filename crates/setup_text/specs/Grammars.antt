@@ -85,6 +85,8 @@ fronts =
     ∷ (the (codes "write") ∷ any ∷ [], value)
     ∷ (the (codes "pass") ∷ [], address)
     ∷ (the (codes "flush") ∷ [], address)
+    ∷ (the (codes "swap") ∷ [], address)
+    ∷ (the (codes "swap") ∷ any ∷ [], value)
     ∷ (the (codes "table") ∷ [], name)
     ∷ (the (codes "board") ∷ [], place)
     ∷ (the (codes "board") ∷ any ∷ the (codes "number") ∷ [], number)

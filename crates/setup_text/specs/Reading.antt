@@ -186,16 +186,18 @@ access_of events.Read a = accesses.Read a.0
 access_of events.Write a = accesses.Write a.0 a.1
 access_of events.Pass a = accesses.Pass a.0
 access_of events.Flush a = accesses.Flush a.0
+access_of events.Swap a = accesses.Swap a.0 a.1
 
 abbrev pub one_address : ℕ → Words → Result (ℕ × ℕ) SetupKind
 one_address bound ws = address_line bound ws >>= λ a. Ok (a, 0)
 
--- The address of an access, and the value of a write.
+-- The address of an access, and the value of a write or a swap.
 abbrev pub access_parts : ℕ → LocalEvent → Words → Result (ℕ × ℕ) SetupKind
 access_parts bound events.Read ws = one_address bound ws
 access_parts bound events.Write ws = value_line bound ws
 access_parts bound events.Pass ws = one_address bound ws
 access_parts bound events.Flush ws = one_address bound ws
+access_parts bound events.Swap ws = value_line bound ws
 
 unfoldable pub access_line : ℕ → LocalEvent → Words → Result Access SetupKind
 access_line bound event ws = access_parts bound event ws >>= λ a. Ok (access_of event a)

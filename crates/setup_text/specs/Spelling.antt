@@ -3,7 +3,7 @@ use Rattle.std.specs.Prelude.{◌≡◌, ℕ, ◌<◌, ◌≤◌, ◌^◌, true,
 use Rattle.std.specs.List.{flat_map, AllByRecursion}
 use Rattle.fb_text.specs.Places.{Words, Item, text_end, lines_items}
 use Rattle.bus_signals.specs.declared.Access.{Access}
-use Rattle.bus_signals.specs.declared.Access.TheVariants.{Read, Write, Pass, Flush}
+use Rattle.bus_signals.specs.declared.Access.TheVariants.{Read, Write, Pass, Flush, Swap}
 use Rattle.class_relation.specs.Names.{is_name}
 use Rattle.table_check.specs.declared.boards.Shape.{Shape}
 use Rattle.table_check.specs.declared.boards.Shape.TheVariants.{Plain, Cached}
@@ -67,6 +67,7 @@ access_row (Read addr) = codes "read" ∷ decimal addr ∷ []
 access_row (Write addr value) = codes "write" ∷ decimal addr ∷ decimal value ∷ []
 access_row (Pass addr) = codes "pass" ∷ decimal addr ∷ []
 access_row (Flush addr) = codes "flush" ∷ decimal addr ∷ []
+access_row (Swap addr value) = codes "swap" ∷ decimal addr ∷ decimal value ∷ []
 
 -- ---- the lines of each part
 
@@ -121,6 +122,7 @@ AccessFits (Read addr) = addr < 2 ^ 32
 AccessFits (Write addr value) = (addr < 2 ^ 32) × (value < 2 ^ 32)
 AccessFits (Pass addr) = addr < 2 ^ 32
 AccessFits (Flush addr) = addr < 2 ^ 32
+AccessFits (Swap addr value) = (addr < 2 ^ 32) × (value < 2 ^ 32)
 
 abbrev pub WordFits : ℕ × ℕ → Type 0
 WordFits w = (w.0 < 2 ^ 32) × (w.1 < 2 ^ 32)
