@@ -23,7 +23,9 @@ MOST_LINES = 4096
 PROGRAM = pathlib.Path(__file__).resolve().parent.parent / "futurebus"
 
 STATES = ("M", "O", "E", "S", "I")
-ACCESSES = ("read", "write", "pass", "flush")
+ACCESSES = ("read", "write", "pass", "flush", "swap")
+# The accesses that give a word, and those that set one.
+GIVING, SETTING = ("read", "swap"), ("write", "swap")
 # The master signals CA, IM and BC of each bus event, and what its transfer is.
 EVENTS = {
     "rd": (1, 0, 0, "line read"),
@@ -35,6 +37,7 @@ EVENTS = {
     "ubw": (0, 1, 1, "word"),
     "pas": (1, 0, 0, "line written"),
     "flu": (0, 0, 0, "line written"),
+    "usw": (0, 1, 0, "word both ways"),
 }
 # The bus events that do not come to a board in a state.
 NEVER = {"M": ("inv", "bwr", "pas", "flu"), "O": ("pas", "flu"), "E": ("inv", "bwr", "pas", "flu"), "S": (), "I": ()}
@@ -70,16 +73,33 @@ def free_text(text):
             yield words
 
 
+def swapped(state, alternatives):
+    """The alternatives of a swap that follow from those of a write: without a copy a word goes both ways."""
+    return [re.sub(" (uwr|ubw)$", " usw", text) if state == "I" else text for text in alternatives]
+
+
+def add_swaps(cells):
+    """Adds to the cells of a table of version 1 those of swaps, which follow from others."""
+    for state in STATES:
+        if (state, "write") in cells:
+            cells[state, "swap"] = swapped(state, cells[state, "write"])
+        if (state, "uwr") in cells:
+            cells[state, "usw"] = cells[state, "uwr"]
+
+
 def outside_tables(lines, tables):
     """The lines that are of no table, one after another. The tables that stand between them are put into `tables`."""
-    cells = None
+    cells, is_older = None, False
     for words in lines:
         if cells is None:
             if words[0] == "table":
-                cells = tables[words[1]] = {}
+                cells, is_older = {}, len(words) == 2
+                tables[words[1]] = cells
             else:
                 yield words
         elif words == ["end"]:
+            if is_older:
+                add_swaps(cells)
             cells = None
         else:
             cells[words[0], words[1]] = " ".join(words[3:]).split(" | ")
@@ -135,8 +155,8 @@ class Event:
     of that part, with all fields but those of the access."""
 
     __slots__ = (
-        "kind", "board", "line", "before", "after", "access", "address", "value", "winner", "lines", "rounds", "event",
-        "result", "answers", "source", "takers", "states", "done", "move",
+        "kind", "board", "line", "before", "after", "access", "address", "value", "reply", "winner", "lines", "rounds",
+        "event", "result", "answers", "source", "takers", "states", "done", "move",
     )
 
     def __init__(self, kind, board, line=None):
@@ -146,7 +166,8 @@ class Event:
         words = done.split(" ")
         self.done, self.access = done, words[0]
         self.address = int(words[1]) if len(words) > 1 else None
-        self.value = int(words[-1]) if len(words) > 2 else None
+        self.value = int(words[2] if self.access in SETTING else words[3]) if len(words) > 2 else None
+        self.reply = int(words[-1]) if self.access in GIVING else None
 
 
 def by_place(words):
@@ -248,8 +269,8 @@ class Machine:
         """Counts an access that a board has done."""
         board = event.board
         place = self.place[board] = self.place[board] + 1
-        if event.access == "read":
-            self.answers[board].update(b"answer %d %d %d %d\n" % (board, place, event.address, event.value))
+        if event.access in GIVING:
+            self.answers[board].update(b"answer %d %d %d %d\n" % (board, place, event.address, event.reply))
 
     def apply(self, event):
         self.steps[event.kind](event)
@@ -257,7 +278,7 @@ class Machine:
     def do_local(self, event):
         board, line = event.board, event.line
         words = self.words(board, line)
-        self.put(board, line, event.after, written(words, event) if event.access == "write" else words)
+        self.put(board, line, event.after, written(words, event) if event.access in SETTING else words)
         self.raised.discard(board)
         if self.granted == board:
             self.granted = 0
@@ -270,11 +291,12 @@ class Machine:
         """The words that a data phase moves, and the states that it leaves."""
         board, line = event.board, event.line
         words = self.supplied(event) if event.event in ("rd", "rfo") else self.words(board, line)
-        if event.access == "write":
+        is_setting = event.access in SETTING
+        if is_setting:
             words = written(words, event)
         for taker in event.takers:
             if taker == "memory":
-                self.memory[line] = written(self.memory[line], event) if event.access == "write" else words
+                self.memory[line] = written(self.memory[line], event) if is_setting else words
             else:
                 state, row = self.row(int(taker), line)
                 self.rows[int(taker), line] = state, written(row, event)

@@ -81,7 +81,7 @@ fn answers(
 
 /// A write-through table that writes a word it does not hold plainly or broadcast.
 fn write_through(alloc: Global, name: Name) -> Result<Table, PushFault> {
-    let mut t = Table::empty(alloc, name);
+    let mut t = Table::empty(alloc, name, 1);
     acts(&mut t, State::S, LocalEvent::Read, State::S, None)?;
     acts(
         &mut t,

@@ -1,10 +1,11 @@
 -- The two versions of tables. A table of version 2 says what it does on swaps. In a table of version
 -- 1 that follows from its writes.
-use Rattle.std.specs.Prelude.{ℕ, Bool, true, false, not, ◌&&◌, ◌==◌, if◌then◌else◌, List, map, Option, Some, None}
+use Rattle.std.specs.Prelude.{ℕ, Bool, true, false, not, ◌&&◌, ◌==◌, if◌then◌else◌, List, map, filter, Option, Some, None}
 use Rattle.bus_signals.specs.declared.BusEvent.{BusEvent}
 use Rattle.bus_signals.specs.declared.BusEvent.TheVariants.{Usw}
 use Rattle.bus_signals.specs.declared.LocalEvent.{LocalEvent}
-use Rattle.bus_signals.specs.Accesses.{is_swap}
+use Rattle.bus_signals.specs.Accesses.{is_swap, local_events}
+use Rattle.bus_signals.specs.Signals.{bus_events}
 use Rattle.bus_signals.specs.Meanings.{goes_both_ways, writes_past_cache}
 use Rattle.moesi_state.specs.declared.State.{State}
 use Rattle.moesi_state.specs.States.{holds}
@@ -23,6 +24,13 @@ is_answer_said version event = not (goes_both_ways event && version == 1)
 abbrev pub is_bus_said : ℕ → Option BusEvent → Bool
 is_bus_said version None = true
 is_bus_said version (Some event) = is_answer_said version event
+
+-- The events of version 1, in their order.
+abbrev pub older_local_events : List LocalEvent
+older_local_events = filter (is_local_said 1) local_events
+
+abbrev pub older_bus_events : List BusEvent
+older_bus_events = filter (is_answer_said 1) bus_events
 
 -- A word that goes past the cache goes both ways in a swap.
 abbrev pub swapped_event : BusEvent → BusEvent

@@ -19,7 +19,7 @@ use table_check::{BoardSpec, Choose, Shape, accept};
 
 /// A write-through table.
 fn write_through(alloc: Global, name: Name) -> Result<Table, Fail> {
-    let mut table = Table::empty(alloc, name);
+    let mut table = Table::empty(alloc, name, 1);
     let locals = [
         (State::S, LocalEvent::Read, State::S, None),
         (State::S, LocalEvent::Write, State::S, Some(BusEvent::Uwr)),

@@ -56,7 +56,7 @@ const ANSWERS: [(State, BusEvent, State, bool, bool, bool); 21] = [
 
 /// The table of a board that copies back.
 fn copy_back(alloc: Global, name: Name) -> Result<Table, PushFault> {
-    let mut table = Table::empty(alloc, name);
+    let mut table = Table::empty(alloc, name, 1);
     for (state, event, after, bus) in LOCAL {
         let result = Outcome::Fixed(after);
         table.push_local(state, event, LocalAction { result, bus })?;
