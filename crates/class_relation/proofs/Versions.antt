@@ -235,7 +235,7 @@ empty-kept name version known = record {
         few_answers = fits-replicate SnoopAction answer_cell_count;
         version = keeps-empty name version known;
       };
-  swaps = swaps-empty name version;
+  follow = swaps-empty name version;
 }
 
 -- The cells after one alternative more, once it is known that they are as many and not too long.

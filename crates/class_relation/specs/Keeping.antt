@@ -18,4 +18,4 @@ is_write_without_copy state event =
 -- its writes.
 pub record KeepsCells (table : Table) (swaps : List LocalAction) : Type 0 where
   pub cells : HasCells table
-  pub swaps : swaps ≡ swaps_of State.I (said_locals table State.I LocalEvent.Write)
+  pub follow : swaps ≡ swaps_of State.I (said_locals table State.I LocalEvent.Write)
