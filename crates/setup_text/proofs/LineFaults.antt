@@ -20,6 +20,7 @@ use Rattle.setup.specs.Setup.{access_count}
 use Rattle.table_text.specs.Reading.{◌>>=◌}
 use Rattle.setup_text.specs.declared.fault.SetupKind.{SetupKind}
 use Rattle.setup_text.specs.declared.fault.SetupKind.TheVariants.{UnknownWord, Number}
+use Rattle.table_text.specs.Spelling.{version_words, IsVersion}
 use Rattle.setup_text.specs.Spelling.{BoardText, SetupText, board_row, access_row, open_rows, setup_rows, WordFits, AccessFits, BoardFits}
 use Rattle.setup_text.specs.Values.{setup_of}
 use Rattle.setup_text.specs.Standing.{StandsSoFar}
@@ -349,7 +350,7 @@ pub only_word :
     (s : SetupText) (t : Words) (others : List Words) → Follows s (codes "word" ∷ t) others
     → (w : ℕ × ℕ) × WordFits w × (t ≡ decimal w.0 ∷ decimal w.1 ∷ [])
 only_word s t others (word_follows w f h a b) = (w, f, cc)
-only_word s t others (head name f h b) = absurd (no_row (codes "word") h refl refl)
+only_word s t others (head name v f known h b) = absurd (no_row (codes "word") h refl refl)
 only_word s t others (next (board b f h)) = absurd (no_row (codes "word") h refl refl)
 only_word s t others (next (access (accesses.Read x) f h some)) = absurd (no_row (codes "word") h refl refl)
 only_word s t others (next (access (accesses.Write x y) f h some)) = absurd (no_row (codes "word") h refl refl)
@@ -360,9 +361,10 @@ only_word s t others (next (ends h none)) = absurd (no_row (codes "word") h refl
 
 pub only_head :
     (s : SetupText) (t : Words) (others : List Words) → Follows s (codes "table" ∷ t) others
-    → (name : List ℕ) × (is_name name ≡ true) × (t ≡ name ∷ []) × (s.boards ≡ [])
+    → (name : List ℕ) × (version : ℕ) × (is_name name ≡ true) × IsVersion version × (t ≡ name ∷ version_words version)
+    × (s.boards ≡ [])
 only_head s t others (word_follows w f h a b) = absurd (no_row (codes "table") h refl refl)
-only_head s t others (head name f h b) = (name, f, cc, b)
+only_head s t others (head name v f known h b) = (name, v, f, known, cc, b)
 only_head s t others (next (board b f h)) = absurd (no_row (codes "table") h refl refl)
 only_head s t others (next (access (accesses.Read x) f h some)) = absurd (no_row (codes "table") h refl refl)
 only_head s t others (next (access (accesses.Write x y) f h some)) = absurd (no_row (codes "table") h refl refl)
@@ -375,7 +377,7 @@ pub only_board :
     (s : SetupText) (t : Words) (others : List Words) → Follows s (codes "board" ∷ t) others
     → (b : BoardText) × BoardFits b × (codes "board" ∷ t ≡ board_row b)
 only_board s t others (word_follows w f h a b) = absurd (no_row (codes "board") h refl refl)
-only_board s t others (head name f h b) = absurd (no_row (codes "board") h refl refl)
+only_board s t others (head name v f known h b) = absurd (no_row (codes "board") h refl refl)
 only_board s t others (next (board b f h)) = (b, f, h)
 only_board s t others (next (access (accesses.Read x) f h some)) = absurd (no_row (codes "board") h refl refl)
 only_board s t others (next (access (accesses.Write x y) f h some)) = absurd (no_row (codes "board") h refl refl)
@@ -386,7 +388,7 @@ only_board s t others (next (ends h none)) = absurd (no_row (codes "board") h re
 
 pub only_end : (s : SetupText) (t : Words) (others : List Words) → Follows s (codes "end" ∷ t) others → t ≡ []
 only_end s t others (word_follows w f h a b) = absurd (no_row (codes "end") h refl refl)
-only_end s t others (head name f h b) = absurd (no_row (codes "end") h refl refl)
+only_end s t others (head name v f known h b) = absurd (no_row (codes "end") h refl refl)
 only_end s t others (next (board b f h)) = absurd (no_row (codes "end") h refl refl)
 only_end s t others (next (access (accesses.Read x) f h some)) = absurd (no_row (codes "end") h refl refl)
 only_end s t others (next (access (accesses.Write x y) f h some)) = absurd (no_row (codes "end") h refl refl)
@@ -449,8 +451,8 @@ pub only_access :
     → Follows s (local_event_word event ∷ t) others → EventTail event t × (0 < length s.boards)
 only_access s event t others (word_follows w f h a b) =
     let x = no_event_row event (codes "word") t (decimal w.0 ∷ decimal w.1 ∷ []) (event_no_word event) h in absurd x
-only_access s event t others (head name f h b) =
-    absurd (no_event_row event (codes "table") t (name ∷ []) (no_event event).0 h)
+only_access s event t others (head name v f known h b) =
+    absurd (no_event_row event (codes "table") t (name ∷ version_words v) (no_event event).0 h)
 only_access s event t others (next (board b f h)) =
     absurd (no_event_row event (codes "board") t (drop 1 (board_row b)) (no_event event).1 h)
 only_access s event t others (next (access a f h some)) = (row_tail event a t f h, some)

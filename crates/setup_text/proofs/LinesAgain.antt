@@ -140,11 +140,14 @@ end_read s some = rw (some_boards s.boards some) refl
 -- ---- head lines
 
 pub head_read :
-    (s : Setup) (name : List ℕ) → s.boards ≡ [] → length s.tables < 16 → is_name name ≡ true
-    → found_name (map named s.tables) name ≡ None
-    → line_at (body s) (head_row name) ≡ Ok (in_table s (empty_table name))
+    (s : Setup) (name : List ℕ) (version : ℕ) → s.boards ≡ [] → length s.tables < 16 → is_name name ≡ true
+    → found_name (map named s.tables) name ≡ None → IsVersion version
+    → line_at (body s) (head_row name version) ≡ Ok (in_table s (empty_table name version))
 unfolding body_line head_name
-head_read s name no_boards few named_so new = rw (no_boards, lt-ltb (length s.tables) 16 few, named_so, new) refl
+head_read s name version no_boards few named_so new (inl one) =
+    rw (one, no_boards, lt-ltb (length s.tables) 16 few, named_so, new) refl
+head_read s name version no_boards few named_so new (inr two) =
+    rw (two, no_boards, lt-ltb (length s.tables) 16 few, named_so, new) refl
 
 -- ---- board lines
 

@@ -79,6 +79,7 @@ one_judged lines setup words w k j h i = absurd h
 one_judged address setup words w k j (a, low, is, past, kind) (b, small, also, beyond, called) = kind ∙ sym called
 one_judged value setup words w k j h i = absurd h
 one_judged name setup words w k j h i = h.1 ∙ sym i.1
+one_judged version setup words w k j h i = absurd h
 one_judged place setup words w k j h i = h.1 ∙ sym i.1
 one_judged number setup words w k j (n, low, is, has, kind) (m, small, also, holds, called) = kind ∙ sym called
 one_judged table setup words w k j h i = h.1 ∙ sym i.1
@@ -99,6 +100,7 @@ one_head :
     → JudgedHead slot tables w j → k ≡ j
 one_head first tables w k j h i = h.2 ∙ sym i.2
 one_head name tables w k j h i = h.1 ∙ sym i.1
+one_head version tables w k j h i = absurd h
 one_head lines tables w k j h i = absurd h
 one_head address tables w k j h i = absurd h
 one_head value tables w k j h i = absurd h

@@ -22,13 +22,13 @@ use Rattle.setup.specs.Setup.{Setup, WellFormed, access_count}
 use Rattle.setup.specs.Setup as checked
 use Rattle.table_check.proofs.Reaching.{test-reached}
 use Rattle.table_text.specs.Reading.{◌>>=◌}
-use Rattle.table_text.specs.Spelling.{CellLine, cell_words, entered, all_entered, table_of}
+use Rattle.table_text.specs.Spelling.{CellLine, cell_words, entered, all_entered}
 use Rattle.table_text.specs.Correct.{AllStand}
 use Rattle.table_text.proofs.TableLaws.{HasAllCells, empty_whole, entered_whole}
 use Rattle.table_text.proofs.Again.{line_again, end_again}
 use Rattle.setup_text.specs.declared.fault.SetupKind.{SetupKind}
 use Rattle.setup_text.specs.Spelling.{TableText, BoardText, SetupText, end_row, memory_row, word_row, head_row, board_row, access_row, table_rows, tables_rows, board_rows, setup_rows, WordFits, AccessFits, TableFits, BoardFits}
-use Rattle.setup_text.specs.Values.{words_set, tables_of, place_of, board_of, setup_of}
+use Rattle.setup_text.specs.Values.{spelled_table, words_set, tables_of, place_of, board_of, setup_of}
 use Rattle.setup_text.specs.Correct.{CellsStand, InPlaces, SetupStands}
 use Rattle.setup_text.specs.Drafts.{empty_setup, with_word, with_table, with_board, with_access, access_added, named, found_name, stays_invalid}
 use Rattle.setup_text.specs.Reading.{start, body, in_table, ended, line_at, has_number}
@@ -118,11 +118,11 @@ new_name ts rest t differ i d lt same =
 one_table :
     (s : Setup) (t : TableText) → s.boards ≡ [] → length s.tables < 16 → TableFits t → CellsStand t
     → found_name (map named s.tables) t.name ≡ None
-    → read_rows line_at (body s) (table_rows t) ≡ Ok (body (with_table s (table_of t.name t.cells)))
+    → read_rows line_at (body s) (table_rows t) ≡ Ok (body (with_table s (spelled_table t)))
 one_table s t no_boards few fits stand new =
-    row_then line_at (body s) (in_table s (empty_table t.name)) (head_row t.name)
-    (map cell_words t.cells ++ end_row ∷ []) (head_read s t.name no_boards few fits.name new)
-    ∙ cells_read s (empty_table t.name) t.cells (empty_whole t.name) stand
+    row_then line_at (body s) (in_table s (empty_table t.name t.version)) (head_row t.name t.version)
+    (map cell_words t.cells ++ end_row ∷ []) (head_read s t.name t.version no_boards few fits.name new fits.version)
+    ∙ cells_read s (empty_table t.name t.version) t.cells (empty_whole t.name t.version) stand
 
 tables_read :
     (s : Setup) (ts : List TableText) → s.boards ≡ [] → length s.tables + length ts ≤ 16 → AllByRecursion TableFits ts
@@ -131,10 +131,10 @@ tables_read :
 tables_read s [] no_boards few fits stand differ =
     ap (λ (v : List Table). Ok (body (record s { tables = v }))) (sym (append-nil s.tables))
 tables_read s (t ∷ ts) no_boards few fits stand differ =
-    let first : Table = table_of t.name t.cells in
+    let first : Table = spelled_table t in
     let grown : (s.tables ++ first ∷ []) ++ tables_of ts ≡ s.tables ++ first ∷ tables_of ts =
     append_assoc s.tables (first ∷ []) (tables_of ts) in
-    let name : first.name ≡ t.name = entered_name (empty_table t.name) t.cells in
+    let name : first.name ≡ t.name = entered_name (empty_table t.name t.version) t.cells in
     let new = not_found s.tables t.name
     (λ i d lt same. new_name s.tables (tables_of ts) first differ i d lt (same ∙ sym name)) in
     rows_then line_at (body s) (body (with_table s first)) (table_rows t) (tables_rows ts)
@@ -356,7 +356,7 @@ setup_read t h =
     let few_boards = h.sound.boards_high in
     let some_boards = h.sound.boards_low in
     let few_accesses = h.sound.accesses in
-    let of_tables = length-map t.tables (λ (x : TableText). table_of x.name x.cells) in
+    let of_tables = length-map t.tables (λ (x : TableText). spelled_table x) in
     let of_boards = length-map t.boards (board_of (tables_of t.tables)) in
     let first = row_then line_at start (body (empty_setup n)) (memory_row n) ((w ++ (ts ++ bs)) ++ end_row ∷ [])
     (lines_read n (omega arith) (omega arith)) in

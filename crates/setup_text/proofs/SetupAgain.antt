@@ -25,13 +25,13 @@ use Rattle.setup.specs.Setup.{Setup, access_count}
 use Rattle.setup.specs.Setup as checked
 use Rattle.table_check.proofs.Reaching.{test-reached}
 use Rattle.table_text.specs.Reading.{◌>>=◌}
-use Rattle.table_text.specs.Spelling.{CellLine, cell_words, entered, all_entered, table_of}
+use Rattle.table_text.specs.Spelling.{CellLine, cell_words, entered, all_entered}
 use Rattle.table_text.specs.Correct.{AllStand}
 use Rattle.table_text.proofs.TableLaws.{HasAllCells, entered_whole, empty_whole}
 use Rattle.table_text.proofs.Again.{line_again, end_again}
 use Rattle.setup_text.specs.declared.fault.SetupKind.{SetupKind}
 use Rattle.setup_text.specs.Spelling.{TableText, BoardText, SetupText, end_row, memory_row, word_row, head_row, board_row, access_row, shape_words, choose_words, open_table_rows, table_rows, board_rows, tables_rows, open_rows, setup_rows, WordFits, TableFits}
-use Rattle.setup_text.specs.Values.{memory_of, tables_of, place_of, board_of, setup_of}
+use Rattle.setup_text.specs.Values.{spelled_table, memory_of, tables_of, place_of, board_of, setup_of}
 use Rattle.setup_text.specs.Standing.{CellsStand, StandsSoFar}
 use Rattle.setup_text.specs.Drafts.{named, found_name, stays_invalid, with_table, with_board, AreTables, IsShape}
 use Rattle.setup_text.specs.Reading.{Mode, start, body, in_table, ended, on_line, has_number, first_line, body_line, line_at, lines_at, text_ends, board_line, access_read}
@@ -93,10 +93,11 @@ word_again n ws w fits low =
 
 head_again :
     (n : ℕ) (ws : List (ℕ × ℕ)) (ts : List TableText) (t : TableText) → TableStands (tables_of ts) t
-    → line_at (body (setup_of (text n ws ts []))) (head_row t.name)
-    ≡ Ok (in_table (setup_of (text n ws ts [])) (empty_table t.name))
+    → line_at (body (setup_of (text n ws ts []))) (head_row t.name t.version)
+    ≡ Ok (in_table (setup_of (text n ws ts [])) (empty_table t.name t.version))
 unfolding body_line
-head_again n ws ts t h = rw (head_reads (tables_of ts) t.name h.few h.fits.name h.new) refl
+head_again n ws ts t h =
+    rw (head_reads (tables_of ts) t.name t.version h.few h.fits.name h.new h.fits.version) refl
 
 -- ---- a table
 
@@ -110,20 +111,21 @@ cells_again setup t (c ∷ cells) whole h =
 pub open_again :
     (n : ℕ) (ws : List (ℕ × ℕ)) (ts : List TableText) (t : TableText) → TableStands (tables_of ts) t
     → rows_at (body (setup_of (text n ws ts []))) (open_table_rows t)
-    ≡ Ok (in_table (setup_of (text n ws ts [])) (table_of t.name t.cells))
+    ≡ Ok (in_table (setup_of (text n ws ts [])) (spelled_table t))
 open_again n ws ts t h =
     rw (head_again n ws ts t h)
-    (cells_again (setup_of (text n ws ts [])) (empty_table t.name) t.cells (empty_whole t.name) h.cells)
+    (cells_again (setup_of (text n ws ts [])) (empty_table t.name t.version) t.cells
+    (empty_whole t.name t.version) h.cells)
 
 table_again :
     (n : ℕ) (ws : List (ℕ × ℕ)) (ts : List TableText) (t : TableText) → TableStands (tables_of ts) t
     → rows_at (body (setup_of (text n ws ts []))) (table_rows t) ≡ Ok (body (setup_of (text n ws (ts ++ t ∷ []) [])))
 table_again n ws ts t h =
-    let closes : line_at (in_table (setup_of (text n ws ts [])) (table_of t.name t.cells)) end_row
-    ≡ Ok (body (with_table (setup_of (text n ws ts [])) (table_of t.name t.cells))) =
-    rw (end_again (table_of t.name t.cells)) refl in
-    rows_push (body (setup_of (text n ws ts []))) (in_table (setup_of (text n ws ts [])) (table_of t.name t.cells))
-    (body (with_table (setup_of (text n ws ts [])) (table_of t.name t.cells))) (open_table_rows t) end_row
+    let closes : line_at (in_table (setup_of (text n ws ts [])) (spelled_table t)) end_row
+    ≡ Ok (body (with_table (setup_of (text n ws ts [])) (spelled_table t))) =
+    rw (end_again (spelled_table t)) refl in
+    rows_push (body (setup_of (text n ws ts []))) (in_table (setup_of (text n ws ts [])) (spelled_table t))
+    (body (with_table (setup_of (text n ws ts [])) (spelled_table t))) (open_table_rows t) end_row
     (open_again n ws ts t h) closes
     ∙ ap (λ (x : List Table). Ok (body (record { memory = memory_of n ws; tables = x; boards = []; scripts = [] })))
     (sym (tables_append ts t))
@@ -266,10 +268,10 @@ name_new w (t ∷ ts) h = go (bytes_eq w t.name) refl (name_new w ts (λ k d low
 
 -- one of the tables that stand, after those before it
 pub one_stands :
-    (ts more : List Table) (t : TableText) → AreTables (ts ++ table_of t.name t.cells ∷ more) → TableFits t
+    (ts more : List Table) (t : TableText) → AreTables (ts ++ spelled_table t ∷ more) → TableFits t
     → CellsStand t → TableStands ts t
 one_stands ts more t are fits cells =
-    let whole = table_of t.name t.cells in
+    let whole = spelled_table t in
     record {
       fits = fits;
       cells = cells;
@@ -285,13 +287,13 @@ one_stands ts more t are fits cells =
 
     differs :
         (k : ℕ) (d : Table) → k < length ts
-        → (get_or (ts ++ table_of t.name t.cells ∷ more) k d).name
-        ≢ (get_or (ts ++ table_of t.name t.cells ∷ more) (length ts) d).name → (get_or ts k d).name ≢ t.name
+        → (get_or (ts ++ spelled_table t ∷ more) k d).name
+        ≢ (get_or (ts ++ spelled_table t ∷ more) (length ts) d).name → (get_or ts k d).name ≢ t.name
     differs k d low h same =
-        h (ap (λ (x : Table). x.name) (get_or_append_left ts (table_of t.name t.cells ∷ more) d k low)
+        h (ap (λ (x : Table). x.name) (get_or_append_left ts (spelled_table t ∷ more) d k low)
         ∙ (same
         ∙ (sym (table_name t.name t.cells)
-        ∙ ap (λ (x : Table). x.name) (sym (at ts (table_of t.name t.cells) d more)))))
+        ∙ ap (λ (x : Table). x.name) (sym (at ts (spelled_table t) d more)))))
 
 tables_run :
     (n : ℕ) (ws : List (ℕ × ℕ)) (done more : List TableText) → AllByRecursion TableFits more
@@ -301,7 +303,7 @@ tables_run :
 tables_run n ws done [] fits cells are =
     ap (λ (x : List TableText). Ok (body (setup_of (text n ws x [])))) (sym (append-nil done))
 tables_run n ws done (t ∷ more) fits cells are =
-    let parts = map-append (λ (t : TableText). table_of t.name t.cells) done (t ∷ more) in
+    let parts = map-append (λ (t : TableText). spelled_table t) done (t ∷ more) in
     let stands = one_stands (tables_of done) (tables_of more) t (subst AreTables parts are) fits.0 cells.0 in
     let regroup = append_assoc done (t ∷ []) more in
     rows_append (body (setup_of (text n ws done []))) (table_rows t) (tables_rows more)

@@ -21,7 +21,7 @@ use Rattle.table_check.specs.declared.boards.Shape.{Shape}
 use Rattle.table_check.specs.declared.boards.Shape.TheVariants.{Plain, Cached}
 use Rattle.setup.specs.Setup.{Setup, access_count}
 use Rattle.table_text.specs.declared.fault.TableKind.{TableKind}
-use Rattle.table_text.specs.Reading.{◌>>=◌, table_line, table_at}
+use Rattle.table_text.specs.Reading.{◌>>=◌, version_at, table_line, table_at}
 use Rattle.table_text.specs.Reading as TableReading
 use Rattle.setup_text.specs.declared.fault.LimitOf.TheVariants.{Lines, Tables, Boards, Frames, Accesses}
 use Rattle.setup_text.specs.declared.fault.SetupKind.{SetupKind}
@@ -237,13 +237,21 @@ unfoldable pub head_name : List Table → Words → Result (List ℕ × Words) S
 head_name tables ws =
     if nat_lt (length tables) 16 then (name_at ws >>= new_name tables) else Err (Limit Tables 17)
 
-abbrev pub head_line : List Table → Words → Result (List ℕ) SetupKind
-head_line tables ws = head_name tables ws >>= λ n. line_ends n.1 >>= λ _. Ok n.0
+-- The fault of a table, as one of a setup.
+abbrev pub as_setup_kind : {X : Type 0} → Result X TableKind → Result X SetupKind
+as_setup_kind (Ok x) = Ok x
+as_setup_kind (Err kind) = Err (kind_of kind)
+
+-- The name and the version of one more table, after the word `table`.
+abbrev pub head_line : List Table → Words → Result (List ℕ × ℕ) SetupKind
+head_line tables ws =
+    head_name tables ws >>=
+    λ n. as_setup_kind (version_at n.1) >>= λ version. Ok (n.0, version)
 
 abbrev pub table_head : Setup → Words → Result Mode SetupKind
 table_head setup ws =
     if is_empty setup.boards
-    then (head_line setup.tables ws >>= λ name. Ok (in_table setup (empty_table name)))
+    then (head_line setup.tables ws >>= λ t. Ok (in_table setup (empty_table t.0 t.1)))
     else Err UnknownWord
 
 abbrev pub board_added : Setup → Words → Result Mode SetupKind
@@ -285,10 +293,6 @@ first_line ws =
     λ after. memory_line after >>= λ lines. Ok (body (empty_setup lines))
 
 -- A line of a table, which may be its last.
-abbrev pub as_setup_kind : {X : Type 0} → Result X TableKind → Result X SetupKind
-as_setup_kind (Ok x) = Ok x
-as_setup_kind (Err kind) = Err (kind_of kind)
-
 abbrev pub after_table_line : Setup → Bool × Table → Mode
 after_table_line setup t = if t.0 then body (with_table setup t.1) else in_table setup t.1
 
@@ -342,7 +346,7 @@ pub data BookMode : Type 0 where
 abbrev pub book_head : List Table → Words → Result BookMode SetupKind
 book_head tables ws =
     this_word (codes "table") ws >>=
-    λ after. head_line tables after >>= λ name. Ok (within tables (empty_table name))
+    λ after. head_line tables after >>= λ t. Ok (within tables (empty_table t.0 t.1))
 
 abbrev pub after_book_line : List Table → Bool × Table → BookMode
 after_book_line tables t = if t.0 then whole (tables ++ t.1 ∷ []) else within tables t.1

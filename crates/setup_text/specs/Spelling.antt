@@ -9,13 +9,14 @@ use Rattle.table_check.specs.declared.boards.Shape.{Shape}
 use Rattle.table_check.specs.declared.boards.Shape.TheVariants.{Plain, Cached}
 use Rattle.table_check.specs.declared.boards.Choose.{Choose}
 use Rattle.table_check.specs.declared.boards.Choose.TheVariants.{First, Round, Seed}
-use Rattle.table_text.specs.Spelling.{CellLine, cell_words, HasAlternative}
+use Rattle.table_text.specs.Spelling.{CellLine, cell_words, version_words, IsVersion, IsLineOf}
 
 -- ---- what is written
 
--- A table: its name, and its cell lines in the order in which they stand.
+-- A table: its name, its version, and its cell lines in the order in which they stand.
 pub record TableText : Type 0 where
   pub name : List ℕ
+  pub version : ℕ
   pub cells : List CellLine
 
 -- A board line, and the accesses after it.
@@ -45,8 +46,8 @@ memory_row lines = codes "memory" ∷ decimal lines ∷ []
 abbrev pub word_row : ℕ × ℕ → Words
 word_row w = codes "word" ∷ decimal w.0 ∷ decimal w.1 ∷ []
 
-abbrev pub head_row : List ℕ → Words
-head_row name = codes "table" ∷ name ∷ []
+abbrev pub head_row : List ℕ → ℕ → Words
+head_row name version = codes "table" ∷ name ∷ version_words version
 
 abbrev pub shape_words : Shape → Words
 shape_words Plain = codes "plain" ∷ []
@@ -73,7 +74,7 @@ access_row (Swap addr value) = codes "swap" ∷ decimal addr ∷ decimal value �
 
 -- The head line of a table and its cell lines, before its `end` line.
 abbrev pub open_table_rows : TableText → List Words
-open_table_rows t = head_row t.name ∷ map cell_words t.cells
+open_table_rows t = head_row t.name t.version ∷ map cell_words t.cells
 
 abbrev pub table_rows : TableText → List Words
 table_rows t = open_table_rows t ++ end_row ∷ []
@@ -129,7 +130,8 @@ WordFits w = (w.0 < 2 ^ 32) × (w.1 < 2 ^ 32)
 
 pub record TableFits (t : TableText) : Type 0 where
   pub name : is_name t.name ≡ true
-  pub cells : AllByRecursion HasAlternative t.cells
+  pub version : IsVersion t.version
+  pub cells : AllByRecursion (IsLineOf t.version) t.cells
 
 pub record BoardFits (b : BoardText) : Type 0 where
   pub place : b.place < 2 ^ 32

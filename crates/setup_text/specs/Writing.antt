@@ -24,7 +24,7 @@ words_from addr (w ∷ ws) =
 
 -- A table, with its cells in cell order.
 abbrev pub text_of_table : Table → TableText
-text_of_table t = record { name = t.name; cells = cells_of t }
+text_of_table t = record { name = t.name; version = t.version; cells = cells_of t }
 
 -- A board at this place, with the name of its table, and its script.
 abbrev pub text_of_board : List Table → ℕ → BoardSpec → List Access → BoardText

@@ -327,7 +327,7 @@ entered_version t (local s e alts) = refl
 entered_version t (answer s e alts) = refl
 
 -- a line that can stand is one of the version
-stands_as_line : (t : Table) (c : CellLine) → HasAlternative c → CanStand t c → IsLineOf t.version c
+pub stands_as_line : (t : Table) (c : CellLine) → HasAlternative c → CanStand t c → IsLineOf t.version c
 stands_as_line t (local s e alts) some can = record { some = some; said = can.3 }
 stands_as_line t (answer s e alts) some can = record { some = some; said = can.3 }
 
