@@ -41,11 +41,11 @@ unsaid-usw version Usw h = refl
 writes_swap :
     (state : State)
     → AllByRecursion (λ (a : LocalAction). has_local (swap_class state) (swapped state a) ≡ true) (write_class state)
-writes_swap M = (refl, refl, tt)
-writes_swap O = (refl, refl, refl, refl, tt)
-writes_swap E = (refl, refl, refl, refl, tt)
-writes_swap S = (refl, refl, refl, refl, refl, refl, refl, refl, tt)
-writes_swap I = (refl, refl, refl, refl, tt)
+writes_swap M = (refl, (refl, tt))
+writes_swap O = (refl, (refl, (refl, (refl, tt))))
+writes_swap E = (refl, (refl, (refl, (refl, tt))))
+writes_swap S = (refl, (refl, (refl, (refl, (refl, (refl, (refl, (refl, tt))))))))
+writes_swap I = (refl, (refl, (refl, (refl, tt))))
 
 swapped-in :
     (state : State) (action : LocalAction) → has_local (write_class state) action ≡ true

@@ -1,9 +1,9 @@
 -- Tables keep to their version as they grow, and what follows for swaps grows with the writes.
 use Rattle.std.proofs.Common.{◌≡◌, ◌≢◌, ℕ, ◌<◌, ◌+◌, ◌*◌, inl, inr, Bool, true, false, ◌&&◌, List, [], ◌∷◌, ◌++◌, length, map, set, get_or, replicate, refl, sym, ap, subst, ◌∙◌, arith, eq-eqb, eqb-true}
-use Rattle.std.specs.Prelude.{◌==◌, ◌⊎◌, slice_set}
+use Rattle.std.specs.Prelude.{◌==◌, ◌⊎◌, ◌≤◌, slice_set, slice_index_or, Result, Ok, Err, OnOk, OnErr}
 use Rattle.std.specs.List.{list_all}
 use Rattle.std.proofs.lemmas.Bool.{and_from, both_ways, eqb-false}
-use Rattle.std.proofs.lemmas.List.{map-append, get_or-set_other, get_or-set_same, get_or-replicate}
+use Rattle.std.proofs.lemmas.List.{length-map, map-append, get_or-set_other, get_or-set_same, get_or-replicate}
 use Rattle.std.proofs.lemmas.List.Folds.{list_all-append}
 use Rattle.bus_signals.specs.declared.BusEvent.{BusEvent}
 use Rattle.bus_signals.specs.declared.LocalEvent.{LocalEvent}
@@ -16,9 +16,10 @@ use Rattle.moesi_state.specs.States.{state_number, holds}
 use Rattle.class_relation.specs.declared.LocalAction.{LocalAction}
 use Rattle.class_relation.specs.declared.SnoopAction.{SnoopAction}
 use Rattle.class_relation.specs.Versions.{is_local_said, is_answer_said, is_bus_said, swapped, swaps_of}
-use Rattle.class_relation.specs.Tables.{Table, KeepsVersion, HasCells, CellsFit, local_cell, local_cell_count, answer_cell, answer_cell_count, said_locals, said_answers, with_local, with_answer, empty_table}
+use Rattle.class_relation.specs.Tables.{Table, KeepsVersion, HasCells, CellsFit, most_alternatives, locals_of, local_cell, local_cell_count, answer_cell, answer_cell_count, said_locals, said_answers, with_local, with_answer, empty_table}
 use Rattle.class_relation.specs.Keeping.{KeepsCells, is_write_without_copy}
-use Rattle.class_relation.proofs.CellsFit.{fits-replicate}
+use Rattle.class_relation.specs.declared.table.PushFault.{PushFault}
+use Rattle.class_relation.proofs.CellsFit.{fits-at, fits-replicate}
 use Rattle.class_relation.proofs.Spelling.{both_true, same_event-eq, same_state-eq}
 
 -- ---- what follows for swaps
@@ -221,6 +222,51 @@ swaps-still table state event action other swaps follows =
     let p = same_local_cell I state LocalEvent.Write event same in
     both_ways (is_write_without_copy state event) other (rw (sym p.0, sym p.1) refl))))
 
+-- Without a copy the alternatives of a swap are those that the program keeps.
+pub swaps-kept :
+    (table : Table) (state : State) (swaps : List LocalAction) → holds state ≡ false
+    → swaps ≡ swaps_of I (said_locals table I LocalEvent.Write)
+    → swaps ≡ swaps_of state (said_locals table state LocalEvent.Write)
+swaps-kept table M swaps none follows = absurd cc
+swaps-kept table O swaps none follows = absurd cc
+swaps-kept table E swaps none follows = absurd cc
+swaps-kept table S swaps none follows = absurd cc
+swaps-kept table I swaps none follows = follows
+
+pub swaps-short :
+    (table : Table) (state : State) → HasCells table
+    → length (swaps_of state (said_locals table state LocalEvent.Write)) ≤ most_alternatives
+swaps-short table state cells =
+    let short = fits-at table.locals (local_cell state LocalEvent.Write) cells.few_locals in
+    omega (arith, short, length-map (said_locals table state LocalEvent.Write) (swapped state))
+
+pub swaps-long :
+    (table : Table) (state : State) (event : LocalEvent) (swaps : List LocalAction)
+    → is_write_without_copy state event ≡ true → swaps ≡ swaps_of I (said_locals table I LocalEvent.Write)
+    → length swaps ≡ length (said_locals table state event)
+swaps-long table state event swaps here follows =
+    let p = both_true (state_number state == state_number I) (local_number event == local_number LocalEvent.Write) here
+    in
+    let states : state ≡ I = same_state-eq state I p.0 in
+    let events : event ≡ LocalEvent.Write = same_kind-eq event LocalEvent.Write p.1 in
+    rw (states, events, follows) (length-map (said_locals table I LocalEvent.Write) (swapped I))
+
+-- In version 1 a swap has what follows from the writes.
+locals-unsaid :
+    (table : Table) (state : State) → table.version ≡ 1
+    → locals_of table state LocalEvent.Swap ≡ swaps_of state (said_locals table state LocalEvent.Write)
+locals-unsaid table state one = rw one refl
+
+grown-swaps :
+    (table : Table) (state : State) (action : LocalAction) → length table.locals ≡ local_cell_count → table.version ≡ 1
+    → locals_of (with_local table state LocalEvent.Write action) state LocalEvent.Swap
+    ≡ locals_of table state LocalEvent.Swap ++ swapped state action ∷ []
+grown-swaps table state action long one =
+    locals-unsaid (with_local table state LocalEvent.Write action) state one
+    ∙ (ap (swaps_of state) (said-here table state LocalEvent.Write action long)
+    ∙ (map-append (swapped state) (said_locals table state LocalEvent.Write) (action ∷ [])
+    ∙ ap (λ (xs : List LocalAction). xs ++ swapped state action ∷ []) (sym (locals-unsaid table state one))))
+
 -- ---- what the program keeps
 
 -- The cells of a table without alternatives.
@@ -265,3 +311,72 @@ cells-answer table state event action cells long fits said = record {
   few_answers = fits;
   version = keeps-answer table state event action cells.version said;
 }
+
+-- ---- one alternative more, or none for want of room or memory
+
+module _ (name : List ℕ) (version : ℕ) (locals new : List (List LocalAction)) (answers : List (List SnoopAction))
+    (swaps : List LocalAction) (state : State) (event : LocalEvent) (action : LocalAction) (place : ℕ)
+    (there : place ≡ local_cell state event) (now : Table)
+    (same : record { name = name; version = version; locals = locals; answers = answers } ≡ now)
+    (kept : KeepsCells (record { name = name; version = version; locals = locals; answers = answers }) swaps)
+    (fits : CellsFit locals → CellsFit new) (long : length new ≡ length locals) where
+  abbrev with : List (List LocalAction) → Table
+  with cells = record { name = name; version = version; locals = cells; answers = answers }
+
+  abbrev Pushed : Type 0
+  Pushed = new ≡ slice_set locals place (slice_index_or locals place [] ++ action ∷ [])
+
+  version-now : version ≡ now.version
+  version-now = ap (λ (t : Table). t.version) same
+
+  -- the cells after the alternative, where it was taken
+  pushed : Pushed → with_local (with locals) state event action ≡ with new
+  pushed ok =
+      ap with (ap (λ (i : ℕ). slice_set locals i (slice_index_or locals i [] ++ action ∷ [])) (sym there) ∙ sym ok)
+
+  pub cells-pushed :
+      Pushed → is_local_said now.version event ≡ true → is_bus_said now.version action.bus ≡ true → HasCells (with new)
+  cells-pushed ok said known =
+      subst HasCells (pushed ok)
+      (cells-local (with locals) state event action kept.cells
+      (ap (λ (t : Table). length t.locals) (pushed ok) ∙ long)
+      (subst (λ (t : Table). CellsFit t.locals) (sym (pushed ok)) (fits kept.cells.few_locals))
+      (subst (λ (v : ℕ). is_local_said v event ≡ true) (sym version-now) said)
+      (subst (λ (v : ℕ). is_bus_said v action.bus ≡ true) (sym version-now) known))
+
+  pub kept-other :
+      (result : Result (Unit {0}) PushFault) → OnOk result Pushed → OnErr result (new ≡ locals)
+      → is_local_said now.version event ≡ true → is_bus_said now.version action.bus ≡ true
+      → is_write_without_copy state event ≡ false → KeepsCells (with new) swaps
+  kept-other (Ok u) ok err said known other = record {
+    cells = cells-pushed ok said known;
+    follow =
+        swaps-still (with locals) state event action other swaps kept.follow
+        ∙ ap (λ (t : Table). swaps_of I (said_locals t I LocalEvent.Write)) (pushed ok);
+  }
+  kept-other (Err e) ok err said known other =
+      subst (λ (cells : List (List LocalAction)). KeepsCells (with cells) swaps) (sym err) kept
+
+  pub kept-write :
+      (grown : List LocalAction) → Pushed → grown ≡ swaps ++ swapped I action ∷ []
+      → is_local_said now.version event ≡ true → is_bus_said now.version action.bus ≡ true
+      → is_write_without_copy state event ≡ true → KeepsCells (with new) grown
+  kept-write grown ok more said known here = record {
+    cells = cells-pushed ok said known;
+    follow =
+        more
+        ∙ (swaps-grown (with locals) state event action kept.cells.locals here swaps kept.follow
+        ∙ ap (λ (t : Table). swaps_of I (said_locals t I LocalEvent.Write)) (pushed ok));
+  }
+
+  pub swaps-pushed :
+      (result : Result (Unit {0}) PushFault) → OnOk result Pushed
+      → OnOk result (now.version ≡ 1 → event ≡ LocalEvent.Write
+      → locals_of (with new) state LocalEvent.Swap ≡ locals_of now state LocalEvent.Swap ++ swapped state action ∷ [])
+  swaps-pushed (Err e) ok = tt
+  swaps-pushed (Ok u) ok = λ one write.
+      let written : with_local (with locals) state LocalEvent.Write action ≡ with new =
+      subst (λ (e : LocalEvent). with_local (with locals) state e action ≡ with new) write (pushed ok) in
+      ap (λ (t : Table). locals_of t state LocalEvent.Swap) (sym written)
+      ∙ (grown-swaps (with locals) state action kept.cells.locals (version-now ∙ one)
+      ∙ ap (λ (t : Table). locals_of t state LocalEvent.Swap ++ swapped state action ∷ []) same)

@@ -7,7 +7,8 @@ use Rattle.fb_text.specs.Lines.{is_empty}
 use Rattle.fb_text.specs.Unread.{Unread, Line, first, has_line, at_next_line}
 use Rattle.class_relation.specs.Tables.{Table, empty_table}
 use Rattle.setup.specs.Setup.{Setup}
-use Rattle.table_text.specs.Reading.{◌>>=◌, StaysOnLine, table_line, table_at}
+use Rattle.table_text.specs.Reading.{◌>>=◌, StaysOnLine, version_at, table_line, table_lines, table_at}
+use Rattle.table_text.specs.Reading as TableReading
 use Rattle.table_text.specs.declared.fault.TableKind.{TableKind}
 use Rattle.setup_text.specs.declared.fault.SetupFault.{SetupFault}
 use Rattle.setup_text.specs.declared.fault.SetupFault.TheVariants as faults

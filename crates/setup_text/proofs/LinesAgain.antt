@@ -1,5 +1,5 @@
 -- A line that is spelled is read as what it spells.
-use Rattle.std.proofs.Common.{◌≡◌, ℕ, ◌+◌, ◌*◌, ◌<◌, ◌≤◌, ◌^◌, Bool, true, false, ltb, List, [], ◌∷◌, ◌++◌, length, map, Some, None, Ok, refl, arith}
+use Rattle.std.proofs.Common.{◌≡◌, ℕ, ◌+◌, ◌*◌, ◌<◌, ◌≤◌, ◌^◌, inl, inr, Bool, true, false, ltb, List, [], ◌∷◌, ◌++◌, length, map, Some, None, Ok, refl, arith}
 use Rattle.std.specs.Prelude.{codes, decimal}
 use Rattle.std.proofs.lemmas.Bool.{le-leb, lt-ltb, ne_eqb, eq-eqb, ltb-true}
 use Rattle.std.proofs.Math.Nat.{mul-le-mul_left}
@@ -20,6 +20,7 @@ use Rattle.table_check.specs.declared.boards.Shape.TheVariants.{Plain, Cached}
 use Rattle.table_check.specs.declared.boards.Choose.{Choose}
 use Rattle.table_check.specs.declared.boards.Choose.TheVariants.{First, Round, Seed}
 use Rattle.setup.specs.Setup.{Setup, access_count}
+use Rattle.table_text.specs.Spelling.{IsVersion}
 use Rattle.setup_text.specs.Spelling.{BoardText, memory_row, word_row, head_row, shape_words, choose_words, board_row, access_row, end_row, AccessFits, WordFits, ChooseFits, BoardFits}
 use Rattle.setup_text.specs.Values.{place_of, board_of}
 use Rattle.setup_text.specs.Drafts.{empty_setup, with_word, with_board, with_access, named, found_name}

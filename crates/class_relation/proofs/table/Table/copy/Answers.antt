@@ -13,7 +13,7 @@ invariant_of-result c =
     let answers : rows c.in-Ok-clone.answers ≡ rows c.self.inside.answers =
     rows_again c.self.inside.answers c.in-Ok-clone.answers c.in-Ok-clone.ensures.cases.whole in
     let swaps : c.in-Ok-clone-2.swaps.items ≡ c.self.inside.swaps.items =
-    each_same c.self.inside.swaps.items c.in-Ok-clone-2.swaps.items c.in-Ok-clone-2.ensures.cases.whole in
+    each_same c.self.inside.swaps.items c.in-Ok-clone-2.swaps.items c.in-Ok-clone-2.ensures.cases.0 in
     rw (locals, answers, swaps, c.copy.ensures.copy) c.self.invariant
 
 pub returns : goal.returns
