@@ -58,9 +58,10 @@ same_local_cell s t e f h =
     let under : local_number f < 5 = local_below f in
     let same : 5 * state_number s + local_number e ≡ 5 * state_number t + local_number f = h in
     let states : state_number s ≡ state_number t = omega (arith, below, under, same) in
-    let events : local_number e ≡ local_number f = omega (arith, below, under, same) in
-    (same_state-eq s t (eq-eqb (state_number s) (state_number t) states),
-      same_kind-eq e f (eq-eqb (local_number e) (local_number f) events))
+    let events : local_number e ≡ local_number f = omega (arith, below, under, same) in (
+      same_state-eq s t (eq-eqb (state_number s) (state_number t) states),
+      same_kind-eq e f (eq-eqb (local_number e) (local_number f) events),
+    )
 
 pub same_answer_cell :
     (s t : State) (e f : BusEvent) → answer_cell s e ≡ answer_cell t f → (s ≡ t) × (e ≡ f)
@@ -69,9 +70,10 @@ same_answer_cell s t e f h =
     let under : event_number f < 10 = bus_below f in
     let same : 10 * state_number s + event_number e ≡ 10 * state_number t + event_number f = h in
     let states : state_number s ≡ state_number t = omega (arith, below, under, same) in
-    let events : event_number e ≡ event_number f = omega (arith, below, under, same) in
-    (same_state-eq s t (eq-eqb (state_number s) (state_number t) states),
-      same_event-eq e f (eq-eqb (event_number e) (event_number f) events))
+    let events : event_number e ≡ event_number f = omega (arith, below, under, same) in (
+      same_state-eq s t (eq-eqb (state_number s) (state_number t) states),
+      same_event-eq e f (eq-eqb (event_number e) (event_number f) events),
+    )
 
 -- ---- cells after one alternative more
 

@@ -76,7 +76,11 @@ fn local_event_in(table: &Table, word: &[u8]) -> Option<LocalEvent>
     ensures said { IfSome result (λ event. IsTrue (is_local_said table.now.version event)) }
 {
     let event = local_event_of(word)?;
-    if table.says_local(event) { Some(event) } else { None }
+    if table.says_local(event) {
+        Some(event)
+    } else {
+        None
+    }
 }
 
 /// The bus event that a word spells in a table of this version.
@@ -85,7 +89,11 @@ fn bus_event_in(table: &Table, word: &[u8]) -> Option<BusEvent>
     ensures said { IfSome result (λ event. IsTrue (is_answer_said table.now.version event)) }
 {
     let event = bus_event_of(word)?;
-    if table.says_answer(event) { Some(event) } else { None }
+    if table.says_answer(event) {
+        Some(event)
+    } else {
+        None
+    }
 }
 
 /// Reads a local alternative of a table, and whether another follows.

@@ -43,17 +43,17 @@ fn faults_stand_on_their_lines(rt: HostRuntime) {
         ("table un\nI read\nend\n", 2, TableKind::UnknownWord),
         ("table un\nI swap = I\nend\n", 2, TableKind::UnknownWord),
         ("table un\nM rd = O DI CH\nend\n", 2, TableKind::UnknownWord),
-        ("table un\nI write = I usw\nend\n", 2, TableKind::UnknownWord),
+        (
+            "table un\nI write = I usw\nend\n",
+            2,
+            TableKind::UnknownWord,
+        ),
         ("table un\nI usw = I\nend\n", 2, TableKind::UnknownWord),
         ("table un 2\nend\n", 1, TableKind::UnknownWord),
         ("table un version\nend\n", 1, TableKind::Number),
         ("table un version 1\nend\n", 1, TableKind::Number),
         ("table un version 3\nend\n", 1, TableKind::Number),
-        (
-            "table un version 2 2\nend\n",
-            1,
-            TableKind::UnknownWord,
-        ),
+        ("table un version 2 2\nend\n", 1, TableKind::UnknownWord),
         ("table un\nend end\n", 2, TableKind::UnknownWord),
         ("table un\n\nI read = I|I\n", 3, TableKind::UnknownWord),
         (
