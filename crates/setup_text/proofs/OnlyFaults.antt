@@ -18,7 +18,7 @@ use Rattle.setup_text.specs.declared.fault.SetupKind.{SetupKind}
 use Rattle.setup_text.specs.declared.fault.SetupKind.TheVariants.{UnknownWord, Limit}
 use Rattle.setup_text.specs.declared.fault.SetupFault.TheVariants as faults
 use Rattle.setup_text.specs.Values.{tables_of, setup_of}
-use Rattle.setup_text.specs.Grammars.{Slot, first, lines, address, value, name, place, number, table, shape, sets, ways, seed, other, slot_of, JudgedLines, JudgedFirst, JudgedAs, JudgedHead, BreaksSetup, BreaksBook, kind_of, setup_grammar, book_grammar, schedule_grammar}
+use Rattle.setup_text.specs.Grammars.{Slot, first, lines, address, value, name, version, place, number, table, shape, sets, ways, seed, other, slot_of, JudgedLines, JudgedFirst, JudgedAs, JudgedHead, BreaksSetup, BreaksBook, kind_of, setup_grammar, book_grammar, schedule_grammar}
 use Rattle.setup_text.specs.Reading.{Mode, BookMode, Fault, on_line, line_at, lines_at, text_ends, setup_at, book_line, book_lines, book_ends, book_at, schedule_at}
 use Rattle.setup_text.specs.FirstFaults.{SetupFaultsAreFirst, BookFaultsAreFirst, ScheduleFaultsAreFirst}
 use Rattle.setup_text.proofs.LineFaults.{decimal_same}
