@@ -360,10 +360,10 @@ module _ (name : List ℕ) (version : ℕ) (locals new : List (List LocalAction)
       subst (λ (cells : List (List LocalAction)). KeepsCells (with cells) swaps) (sym err) kept
 
   pub kept-write :
-      (grown : List LocalAction) → Pushed → grown ≡ swaps ++ swapped I action ∷ []
+      (after : List LocalAction) → Pushed → after ≡ swaps ++ swapped I action ∷ []
       → is_local_said now.version event ≡ true → is_bus_said now.version action.bus ≡ true
-      → is_write_without_copy state event ≡ true → KeepsCells (with new) grown
-  kept-write grown ok more said known here = record {
+      → is_write_without_copy state event ≡ true → KeepsCells (with new) after
+  kept-write after ok more said known here = record {
     cells = cells-pushed ok said known;
     follow =
         more
