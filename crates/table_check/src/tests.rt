@@ -29,6 +29,9 @@ fn uncached(
             result: Outcome::Fixed(state),
             bus,
         };
+        if !table.says_local(event) || !table.says_bus(bus) {
+            return Err("a swap".into());
+        }
         if table.push_local(I, event, action).is_err() {
             return Err("memory".into());
         }
