@@ -145,7 +145,13 @@ fn explain_files(
 {
     match (outcome, seen.last) {
         (Outcome::TooLong, role) => {
-            explain_length(alloc, name_of(words, role), seen.length, limit_of(role), text)
+            explain_length(
+                alloc,
+                name_of(words, role),
+                seen.length,
+                limit_of(role),
+                text,
+            )
         }
         (Outcome::Malformed, Role::Schedule) => explain_second(alloc, seen, text),
         (_, Role::Trace) => explain_trace(alloc, &seen.setup, &seen.other, text),

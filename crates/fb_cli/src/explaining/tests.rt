@@ -78,7 +78,10 @@ fn a_file_that_is_not_read_is_named(rt: HostRuntime) -> Result<(), Fail> {
     let mut sink = MemSink::new(alloc, 500, 500, Vec::new(alloc))?;
     let status = plain(alloc, &run, &mut shelf, &mut sink);
     assert_eq!(rt; status, 4);
-    assert!(rt; sink.taken().starts_with(b"fault read schedule\nThe file X, "));
+    assert!(rt;
+        sink.taken()
+            .starts_with(b"fault read schedule\nThe file X, ")
+    );
     Ok(())
 }
 

@@ -1,7 +1,7 @@
 //! The rows of `help` and of `version`.
 
-use crate::tests::{failing, files, said, words};
 use crate::plain;
+use crate::tests::{failing, files, said, words};
 use fb_edge::{MemSink, SureShelf};
 use std::test::Fail;
 use usage::{help_text, page_named, version_text};
