@@ -14,9 +14,11 @@ use Rattle.fb_cli.specs.declared.answers.Reply.{Reply}
 use Rattle.fb_cli.specs.declared.answers.Reply.TheVariants.{Answered, Refused, Explained}
 use Rattle.fb_cli.specs.declared.role.Role.{Role}
 use Rattle.fb_cli.specs.Output.{Output, Files, on_read, with_file, within}
-use Rattle.fb_cli.specs.Command.{AreSetup, Command, File, Follows, IsUnread, alone, file_on, known, on_files, setup_file}
+use Rattle.fb_cli.specs.Command.{AreSetup, Command, File, Follows, IsUnread, alone, file_on, known, on_files, printing, setup_file}
 use Rattle.fb_cli.specs.Replies.{Comes, Gives, Stops, StopsAt, answer_output}
+use Rattle.setup_text.specs.Writing.{written_setup}
 use Rattle.fb_cli.specs.Headline.{IsTextOfRun}
+use Rattle.fb_cli.specs.Show.{show}
 use Rattle.fb_cli.specs.Run.{AreTurns, played_text, run, run_seeded, turns_of}
 use Rattle.fb_cli.specs.Race.{race}
 use Rattle.fb_cli.proofs.Runs.{of_run}
@@ -164,3 +166,40 @@ race_comes name files A setup (Ok a) free read done runs =
     answer_comes command.opens command.refusal command.prints files A a free done
     (on_some files (λ file r. of_run (file name) setup (answer_output a).text r runs) read)
 race_comes name files A setup (Err e) free read done runs = refl
+
+-- A command that opens no file, and prints what it came to.
+pub printing_comes :
+    (wanted : List ℕ) (reply : Reply) → Gives (λ o. o ≡ record { status = 0; text = wanted }) (λ role. ⊥) reply
+    → Comes (printing wanted) None ⊥ reply
+printing_comes wanted (Answered a) is = (ap (λ (o : Output). o.status) is, ap (λ (o : Output). o.text) is)
+printing_comes wanted (Refused NoRow) is = absurd is
+printing_comes wanted (Refused (Unread role)) is = absurd is
+printing_comes wanted (Refused NoMemory) is = refl
+printing_comes wanted (Explained refusal text) is = absurd is
+
+pub said_comes :
+    {E : Type 0} (wanted : List ℕ) (came : Result Answer E)
+    → IfOk came (λ a. answer_output a ≡ record { status = 0; text = wanted })
+    → Comes (printing wanted) None ⊥ (option_map_or Answered (result_ok came) (Refused NoMemory))
+said_comes wanted (Ok a) is = (ap (λ (o : Output). o.status) is, ap (λ (o : Output). o.text) is)
+said_comes wanted (Err e) is = refl
+
+-- The spelling of a setup of a file.
+pub shown_comes :
+    (name : List ℕ) (files : Option Files) (A : Type 0) (setup : Setup) (reply : Reply)
+    → IfSome files (λ file. (show name).refusal file ≡ None)
+    → IfSome files (λ file. AreSetup setup (file name))
+    → Gives (λ o. o ≡ record { status = 0; text = written_setup setup }) (λ role. ⊥) reply
+    → Comes (show name) files A reply
+shown_comes name files A setup (Answered a) free read is =
+    let command = show name in
+    answer_comes command.opens command.refusal command.prints files A a free (ap (λ (o : Output). o.status) is)
+    (on_some files
+    (λ file r.
+    subst (λ s. IfOk s (λ setup. (answer_output a).text ≡ written_setup setup)) (sym r.1)
+    (ap (λ (o : Output). o.text) is))
+    read)
+shown_comes name files A setup (Refused NoRow) free read is = absurd is
+shown_comes name files A setup (Refused (Unread role)) free read is = absurd is
+shown_comes name files A setup (Refused NoMemory) free read is = refl
+shown_comes name files A setup (Explained refusal text) free read is = absurd is

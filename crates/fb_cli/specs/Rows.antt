@@ -5,8 +5,8 @@ use Rattle.std.specs.Str.{bytes_eq}
 use Rattle.std.specs.Result.{result_ok}
 use Rattle.fb_text.specs.Number.{number_of}
 use Rattle.fb_text.specs.Unread.{number_within}
-use Rattle.usage.specs.Usage.{page_named, pages}
-use Rattle.fb_cli.specs.Command.{Command, Found, none, found, alone}
+use Rattle.usage.specs.Usage.{help_text, page_named, pages, version_text}
+use Rattle.fb_cli.specs.Command.{Command, Found, none, found, alone, printing}
 use Rattle.fb_cli.specs.Check.{check}
 use Rattle.fb_cli.specs.Show.{show}
 use Rattle.fb_cli.specs.Run.{run, run_seeded}
@@ -14,7 +14,6 @@ use Rattle.fb_cli.specs.Replay.{replay}
 use Rattle.fb_cli.specs.Race.{race}
 use Rattle.fb_cli.specs.Make.{make}
 use Rattle.fb_cli.specs.Tally.{tally}
-use Rattle.fb_cli.specs.Help.{help, help_page, version}
 use Rattle.fb_cli.specs.Explain.{explained}
 
 -- The number of 64 bits that a word spells.
@@ -75,12 +74,12 @@ abbrev pub fileless_rows : List Row
 fileless_rows =
     row (seed_after (codes "make")) make
     ∷ row (seed_after (codes "tally")) tally
-    ∷ row (alone_is (codes "help")) (λ word. help)
-    ∷ row (alone_is (codes "-h")) (λ word. help)
-    ∷ row (alone_is (codes "--help")) (λ word. help)
-    ∷ row (page_after (codes "help")) help_page
-    ∷ row (alone_is (codes "version")) (λ word. version)
-    ∷ row (alone_is (codes "--version")) (λ word. version)
+    ∷ row (alone_is (codes "help")) (λ word. printing help_text)
+    ∷ row (alone_is (codes "-h")) (λ word. printing help_text)
+    ∷ row (alone_is (codes "--help")) (λ word. printing help_text)
+    ∷ row (page_after (codes "help")) printing
+    ∷ row (alone_is (codes "version")) (λ word. printing version_text)
+    ∷ row (alone_is (codes "--version")) (λ word. printing version_text)
     ∷ []
 
 -- The rows of the commands that take no threads and no other command's words.

@@ -238,6 +238,7 @@ pub fn explain<F: Shelf>(alloc: Global, words: &[String], shelf: &mut F) -> Repl
             },
             Err(NoMemory) => Reply::Refused(Refusal::NoMemory),
         },
-        Err(reply) => reply,
+        Err(Reply::Refused(Refusal::NoMemory)) => Reply::Refused(Refusal::NoMemory),
+        Err(Reply::Explained { refusal, text }) => Reply::Explained { refusal, text },
     }
 }

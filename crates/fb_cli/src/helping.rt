@@ -3,7 +3,6 @@
 ghost use Rattle.std.specs.Prelude.{◌≡◌, None, IfOk};
 ghost use Rattle.usage.specs.Usage.{help_text, version_text};
 ghost use Rattle.fb_cli.specs.Command.{printing};
-ghost use Rattle.fb_cli.specs.Help.{help, help_page, version};
 ghost use Rattle.fb_cli.specs.Replies.{Comes, answer_output};
 
 use crate::answers::{Answer, Outcome, Reply};
@@ -38,14 +37,14 @@ pub fn say(alloc: Global, words: &str) -> Reply
 
 /// Does `help`.
 pub fn help(alloc: Global) -> Reply
-    ensures { Comes help None ⊥ result }
+    ensures { Comes (printing help_text) None ⊥ result }
 {
     say(alloc, help_text())
 }
 
 /// Does `version`.
 pub fn version(alloc: Global) -> Reply
-    ensures { Comes version None ⊥ result }
+    ensures { Comes (printing version_text) None ⊥ result }
 {
     say(alloc, version_text())
 }
