@@ -72,16 +72,6 @@ impl<'a> At<'a> {
     }
 }
 
-/// Appends that a board has nothing left to do.
-pub fn say_finished(text: &mut Text, board: BoardNo) -> Result<(), NoMemory> {
-    counted(
-        text,
-        "Board ",
-        u64::from(board.0),
-        " has done all of its accesses.\n",
-    )
-}
-
 /// Appends who has the bus.
 pub fn say_phase(text: &mut Text, phase: Phase) -> Result<(), NoMemory> {
     match phase {
@@ -192,6 +182,19 @@ fn drop_line(alloc: Global, board: BoardNo, line: u32, state: State) -> Result<T
     Ok(text)
 }
 
+/// The drop that the machine takes of a board.
+fn right_drop(alloc: Global, seen: &mut Seen, board: BoardNo) -> Result<Option<Text>, NoMemory> {
+    let lines = seen.machine.lines();
+    for line in 0..lines {
+        let state = seen.state(board, LineNo(line));
+        let right = drop_line(alloc, board, line, state)?;
+        if takes(&mut seen.machine, right.bytes()) {
+            return Ok(Some(right));
+        }
+    }
+    Ok(None)
+}
+
 /// Appends the line of the copy that a board gives up, or that it gives up none.
 pub fn say_drop(
     alloc: Global,
@@ -200,14 +203,8 @@ pub fn say_drop(
     at: At,
     board: BoardNo,
 ) -> Result<(), NoMemory> {
-    for line in 0..seen.machine.lines() {
-        let state = seen.state(board, LineNo(line));
-        if state.holds() {
-            let right = drop_line(alloc, board, line, state)?;
-            if takes(&mut seen.machine, right.bytes()) {
-                return at.show_right(text, right.bytes());
-            }
-        }
+    if let Some(line) = right_drop(alloc, seen, board)? {
+        return at.show_right(text, line.bytes());
     }
     at.show(text)?;
     counted(
@@ -276,6 +273,36 @@ pub fn say_grant(
     )
 }
 
+/// Appends that a board has no transaction connected.
+fn say_unconnected(text: &mut Text, at: At, board: BoardNo, phase: Phase) -> Result<(), NoMemory> {
+    at.show(text)?;
+    counted(
+        text,
+        "Board ",
+        u64::from(board.0),
+        " has no transaction connected. ",
+    )?;
+    say_phase(text, phase)
+}
+
+/// The line of an event that is a data phase.
+fn data_line(alloc: Global, event: Option<&Event>) -> Result<Text, NoMemory> {
+    let mut line = Text::new(alloc);
+    if let Some(Event::DataPhase(carried)) = event {
+        say_data_line(&mut line, carried)?;
+    }
+    Ok(line)
+}
+
+/// The data phase that the machine has in a board's turn.
+fn right_data(alloc: Global, machine: &mut Machine, board: BoardNo) -> Result<Text, NoMemory> {
+    if board.0 > 0 && board.0 <= machine.boards() {
+        machine.advance(board);
+        return data_line(alloc, machine.journal().last());
+    }
+    Ok(Text::new(alloc))
+}
+
 /// Appends the data phase that the machine has, or that it has none.
 pub fn say_data(
     alloc: Global,
@@ -284,22 +311,10 @@ pub fn say_data(
     at: At,
     board: BoardNo,
 ) -> Result<(), NoMemory> {
-    if seen.phase() != Phase::Connected(board) {
-        at.show(text)?;
-        counted(
-            text,
-            "Board ",
-            u64::from(board.0),
-            " has no transaction connected. ",
-        )?;
-        return say_phase(text, seen.phase());
+    let phase = seen.phase();
+    if phase != Phase::Connected(board) {
+        return say_unconnected(text, at, board, phase);
     }
-    if board.0 > 0 && board.0 <= seen.machine.boards() {
-        seen.machine.advance(board);
-    }
-    let mut right = Text::new(alloc);
-    if let Some(Event::DataPhase(carried)) = seen.machine.journal().last() {
-        say_data_line(&mut right, carried)?;
-    }
+    let right = right_data(alloc, &mut seen.machine, board)?;
     at.show_right(text, right.bytes())
 }

@@ -54,17 +54,17 @@ pub fn explain_schedule(
     append(text, schedule_reason(alloc, bytes, boards))
 }
 
-/// Appends why a trace is not that of a complete run of a setup.
+/// Appends why a trace is not that of a complete run of the setup of a text.
 pub fn explain_trace(
     alloc: Global,
-    setup: &[u8],
+    bytes: &[u8],
     trace: &[u8],
     text: &mut Text,
 ) -> Result<(), NoMemory>
     ensures appends { Appends text.old.bytes text.new.bytes }
     ensures none { OnErr result (text.new.bytes ≡ text.old.bytes) }
 {
-    append(text, trace_reason(alloc, setup, trace))
+    append(text, trace_reason(alloc, bytes, trace))
 }
 
 /// Appends why words ask for no command.

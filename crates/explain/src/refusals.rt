@@ -62,6 +62,20 @@ pub fn say_choice(
     say_cell(text, seen.cell(board, access))
 }
 
+/// Appends that a board has no use for a request, or has one raised.
+fn say_no_request(
+    text: &mut Text,
+    seen: &Seen,
+    board: BoardNo,
+    access: &Access,
+) -> Result<(), NoMemory> {
+    if seen.is_raised(board) {
+        return say_board(text, board, " has raised its request already.\n");
+    }
+    say_board(text, board, " does not need the bus now. ")?;
+    say_choice(text, seen, board, access)
+}
+
 /// Appends why a board cannot raise a request.
 pub fn say_raise(
     text: &mut Text,
@@ -71,14 +85,11 @@ pub fn say_raise(
     access: &Access,
 ) -> Result<(), NoMemory> {
     at.show_word(text, 1)?;
-    if seen.phase() == Phase::Granted(board) || seen.phase() == Phase::Connected(board) {
-        return say_phase(text, seen.phase());
+    let phase = seen.phase();
+    if phase.is_of(board) {
+        return say_phase(text, phase);
     }
-    if seen.is_raised(board) {
-        return say_board(text, board, " has raised its request already.\n");
-    }
-    say_board(text, board, " does not need the bus now. ")?;
-    say_choice(text, seen, board, access)
+    say_no_request(text, seen, board, access)
 }
 
 /// Whether a cell has an alternative with this event and this outcome.
@@ -204,6 +215,45 @@ fn say_unfit(
     )
 }
 
+/// Appends that a board has not been granted the bus.
+fn say_ungranted(text: &mut Text, at: At, master: BoardNo, phase: Phase) -> Result<(), NoMemory> {
+    at.show_word(text, 1)?;
+    say_board(text, master, " has not been granted the bus. ")?;
+    say_phase(text, phase)
+}
+
+/// Appends the cell of the master for its access, with carets under a word of the line.
+fn say_choice_at(
+    text: &mut Text,
+    seen: &Seen,
+    at: At,
+    place: usize,
+    master: BoardNo,
+    access: &Access,
+) -> Result<(), NoMemory> {
+    at.show_word(text, place)?;
+    say_choice(text, seen, master, access)
+}
+
+/// Appends why a transaction that flushes no victim cannot connect.
+fn say_no_choice(
+    text: &mut Text,
+    seen: &Seen,
+    at: At,
+    transaction: &Connected,
+    access: &Access,
+) -> Result<(), NoMemory> {
+    let master = transaction.master;
+    if transaction.line != access.addr().line() {
+        return say_choice_at(text, seen, at, 4, master, access);
+    }
+    let cell = seen.cell(master, access);
+    if !has_alternative(cell, transaction.event, transaction.outcome) {
+        return say_choice_at(text, seen, at, 2, master, access);
+    }
+    say_unfit(text, seen, at, transaction, false)
+}
+
 /// Appends why a transaction cannot connect.
 pub fn say_connect(
     text: &mut Text,
@@ -212,21 +262,12 @@ pub fn say_connect(
     transaction: &Connected,
     access: &Access,
 ) -> Result<(), NoMemory> {
-    let master = transaction.master;
-    if seen.phase() != Phase::Granted(master) {
-        at.show_word(text, 1)?;
-        say_board(text, master, " has not been granted the bus. ")?;
-        return say_phase(text, seen.phase());
+    let phase = seen.phase();
+    if phase != Phase::Granted(transaction.master) {
+        return say_ungranted(text, at, transaction.master, phase);
     }
-    let is_flush = flushes(seen, transaction, access);
-    if !is_flush && transaction.line != access.addr().line() {
-        at.show_word(text, 4)?;
-        return say_choice(text, seen, master, access);
+    if flushes(seen, transaction, access) {
+        return say_unfit(text, seen, at, transaction, true);
     }
-    let cell = seen.cell(master, access);
-    if !is_flush && !has_alternative(cell, transaction.event, transaction.outcome) {
-        at.show_word(text, 2)?;
-        return say_choice(text, seen, master, access);
-    }
-    say_unfit(text, seen, at, transaction, is_flush)
+    say_no_choice(text, seen, at, transaction, access)
 }

@@ -23,6 +23,17 @@ pub enum Phase {
     Connected(BoardNo),
 }
 
+impl Phase {
+    /// Whether a board has the bus.
+    pub fn is_of(self, board: BoardNo) -> bool {
+        match self {
+            Phase::Idle => false,
+            Phase::Granted(master) => master == board,
+            Phase::Connected(master) => master == board,
+        }
+    }
+}
+
 /// Who has the bus after these events.
 fn phase_after(events: &[Event]) -> Phase {
     let mut phase = Phase::Idle;
@@ -55,7 +66,10 @@ fn next_raised(raised: bool, event: &Event, board: BoardNo) -> bool {
 impl Seen {
     /// Whether the setup has a board.
     pub fn has(&self, board: BoardNo) -> bool {
-        board.0 > 0 && board.0 <= self.machine.boards()
+        if board.0 == 0 {
+            return false;
+        }
+        board.0 <= self.machine.boards()
     }
 
     /// How many accesses a board has done.

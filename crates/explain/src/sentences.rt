@@ -151,13 +151,27 @@ pub fn say_why(text: &mut Text, fault: &Fault) -> Result<(), NoMemory> {
         Why::NoBoardYet => say(text, "An access stands after the board that does it.\n"),
         Why::NoTable { nearest } => say_no_table(text, nearest),
         Why::Limit { of, count, most } => say_limit(text, of, count, most),
-        _ => say_other(text, &fault.why),
+        _ => say_other(text, fault),
     }
 }
 
+/// Appends that a board has the number already.
+fn say_twice(text: &mut Text, board: u64, line: u32) -> Result<(), NoMemory> {
+    counted(text, "This is the number of board ", board, ", at line ")?;
+    counted(text, "", u64::from(line), ". Each board has its own.\n")
+}
+
+/// Appends that the table of a board without frames leads to a copy.
+fn say_no_frames(text: &mut Text, name: &[u8], line: u32) -> Result<(), NoMemory> {
+    let before = "A plain board keeps no copy, but table ";
+    let between = " leads from I to another state at line ";
+    say_at_line(text, before, name, between, line)?;
+    say(text, "Write cached SETS WAYS.\n")
+}
+
 /// Appends the sentences of a fault that goes back to an earlier line.
-fn say_earlier(text: &mut Text, why: &Why) -> Result<(), NoMemory> {
-    match *why {
+fn say_earlier(text: &mut Text, fault: &Fault) -> Result<(), NoMemory> {
+    match fault.why {
         Why::TwiceCell { line } => {
             counted(
                 text,
@@ -174,32 +188,19 @@ fn say_earlier(text: &mut Text, why: &Why) -> Result<(), NoMemory> {
                 ".\n",
             )
         }
-        Why::TwiceNumber { board, line } => {
-            counted(text, "This is the number of board ", board, ", at line ")?;
-            counted(text, "", u64::from(line), ". Each board has its own.\n")
-        }
+        Why::TwiceNumber { board, line } => say_twice(text, board, line),
         Why::TableNotEnded { name, line } => {
             let before = "An end line is missing before this one, for table ";
             say_at_line(text, before, name, ", begun at line ", line)
         }
-        Why::NoFrames { name, line } => {
-            let before = "A plain board keeps no copy, but table ";
-            say_at_line(
-                text,
-                before,
-                name,
-                " leads from I to another state at line ",
-                line,
-            )?;
-            say(text, "Write cached SETS WAYS.\n")
-        }
+        Why::NoFrames { name, line } => say_no_frames(text, name, line),
         _ => Ok(()),
     }
 }
 
 /// Appends the sentences of a fault where words are missing, or that goes back to an earlier line.
-fn say_other(text: &mut Text, why: &Why) -> Result<(), NoMemory> {
-    match *why {
+fn say_other(text: &mut Text, fault: &Fault) -> Result<(), NoMemory> {
+    match fault.why {
         Why::NoAlternative => {
             say(
                 text,
@@ -213,6 +214,6 @@ fn say_other(text: &mut Text, why: &Why) -> Result<(), NoMemory> {
             )
         }
         Why::SetupNotEnded => say(text, "The text ends without its last line, end.\n"),
-        _ => say_earlier(text, why),
+        _ => say_earlier(text, fault),
     }
 }

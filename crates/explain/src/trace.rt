@@ -1,6 +1,6 @@
 //! Why a trace is not that of a complete run.
 
-use crate::expected::{At, say_data, say_drop, say_finished, say_grant, say_local};
+use crate::expected::{At, say_data, say_drop, say_grant, say_local};
 use crate::reader::Reader;
 use crate::refusals::{say_connect, say_raise};
 use crate::replayed::{Stopped, follow};
@@ -8,7 +8,7 @@ use crate::say::{counted, say, say_access};
 use crate::seen::Seen;
 use crate::texts::is_short;
 use backplane::assemble;
-use bus_signals::BoardNo;
+use bus_signals::{Access, BoardNo};
 use fb_text::Text;
 use no_memory::NoMemory;
 use setup_text::read_setup;
@@ -18,10 +18,50 @@ use trace_text::Event;
 /// The board whose turn an event is.
 fn turn_of(event: &Event) -> BoardNo {
     match event {
-        Event::Local { board, .. } | Event::Drop { board, .. } | Event::Raise { board } => *board,
+        Event::Local { board, .. } => *board,
+        Event::Drop { board, .. } => *board,
+        Event::Raise { board } => *board,
         Event::Grant { by, .. } => *by,
         Event::Connect(transaction) => transaction.master,
         Event::DataPhase(carried) => carried.master,
+    }
+}
+
+/// Appends that the setup has no such board.
+fn say_no_board(text: &mut Text, at: At, boards: u8) -> Result<(), NoMemory> {
+    at.show(text)?;
+    counted(text, "The setup has boards 1 to ", u64::from(boards), ".\n")
+}
+
+/// Appends that a board has nothing left to do.
+fn say_finished(text: &mut Text, at: At, board: BoardNo) -> Result<(), NoMemory> {
+    at.show(text)?;
+    counted(
+        text,
+        "Board ",
+        u64::from(board.0),
+        " has done all of its accesses.\n",
+    )
+}
+
+/// Appends why an event of a board that is to do an access is no step.
+fn say_event(
+    alloc: Global,
+    text: &mut Text,
+    seen: &mut Seen,
+    at: At,
+    event: &Event,
+    access: &Access,
+) -> Result<(), NoMemory> {
+    match event {
+        Event::Local { board, after, .. } => {
+            say_local(alloc, text, seen, at, *board, access, *after)
+        }
+        Event::Drop { board, .. } => say_drop(alloc, text, seen, at, *board),
+        Event::Raise { board } => say_raise(text, seen, at, *board, access),
+        Event::Grant { by, .. } => say_grant(alloc, text, seen, at, *by),
+        Event::Connect(transaction) => say_connect(text, seen, at, transaction, access),
+        Event::DataPhase(carried) => say_data(alloc, text, seen, at, carried.master),
     }
 }
 
@@ -35,21 +75,11 @@ fn say_refused(
 ) -> Result<(), NoMemory> {
     let board = turn_of(event);
     if !seen.has(board) {
-        at.show(text)?;
-        let boards = u64::from(seen.machine.boards());
-        return counted(text, "The setup has boards 1 to ", boards, ".\n");
+        return say_no_board(text, at, seen.machine.boards());
     }
-    let Some(access) = seen.present(board) else {
-        at.show(text)?;
-        return say_finished(text, board);
-    };
-    match event {
-        Event::Local { after, .. } => say_local(alloc, text, seen, at, board, &access, *after),
-        Event::Drop { .. } => say_drop(alloc, text, seen, at, board),
-        Event::Raise { .. } => say_raise(text, seen, at, board, &access),
-        Event::Grant { .. } => say_grant(alloc, text, seen, at, board),
-        Event::Connect(transaction) => say_connect(text, seen, at, transaction, &access),
-        Event::DataPhase(_) => say_data(alloc, text, seen, at, board),
+    match seen.present(board) {
+        Some(access) => say_event(alloc, text, seen, at, event, &access),
+        None => say_finished(text, at, board),
     }
 }
 
@@ -114,27 +144,64 @@ fn opened(alloc: Global, bytes: &[u8]) -> Option<Seen> {
     }
 }
 
-/// Why a trace is not that of a complete run of the setup of a text. It is empty where it is.
-pub fn trace_reason(alloc: Global, bytes: &[u8], trace: &[u8]) -> Result<Text, NoMemory> {
-    let mut text = Text::new(alloc);
-    let Some(seen) = opened(alloc, bytes) else {
-        return Ok(text);
-    };
-    let mut seen = seen;
-    match follow(&mut seen.machine, trace) {
-        Stopped::AtEnd => {
-            if let Some(board) = seen.machine.unfinished() {
-                say_unfinished(&mut text, &seen, board)?;
-            }
+/// Appends which board is unfinished, where one is.
+fn say_end(text: &mut Text, seen: &Seen) -> Result<(), NoMemory> {
+    match seen.machine.unfinished() {
+        Some(board) => say_unfinished(text, seen, board),
+        None => Ok(()),
+    }
+}
+
+/// Appends why a trace was followed no further.
+fn say_stopped(
+    alloc: Global,
+    text: &mut Text,
+    seen: &mut Seen,
+    stopped: &Stopped,
+) -> Result<(), NoMemory> {
+    match stopped {
+        Stopped::AtEnd => say_end(text, seen),
+        Stopped::Misspelled { number, line } => {
+            say_misspelled(
+                text,
+                At {
+                    number: *number,
+                    line,
+                },
+            )
         }
-        Stopped::Misspelled { number, line } => say_misspelled(&mut text, At { number, line })?,
         Stopped::Refused {
             number,
             line,
             event,
-        } => {
-            say_refused(alloc, &mut text, &mut seen, At { number, line }, &event)?;
-        }
+        } => say_refused(
+            alloc,
+            text,
+            seen,
+            At {
+                number: *number,
+                line,
+            },
+            event,
+        ),
     }
+}
+
+/// Why a trace is not that of a complete run, from the opening of a machine on.
+fn run_reason(alloc: Global, seen: &mut Seen, trace: &[u8]) -> Result<Text, NoMemory> {
+    let mut text = Text::new(alloc);
+    let stopped = follow(&mut seen.machine, trace);
+    say_stopped(alloc, &mut text, seen, &stopped)?;
     Ok(text)
+}
+
+/// Why a trace is not that of a complete run of the setup of a text. It is empty where it is.
+pub fn trace_reason(alloc: Global, bytes: &[u8], trace: &[u8]) -> Result<Text, NoMemory> {
+    match opened(alloc, bytes) {
+        Some(seen) => {
+            let mut seen = seen;
+            run_reason(alloc, &mut seen, trace)
+        }
+        None => Ok(Text::new(alloc)),
+    }
 }

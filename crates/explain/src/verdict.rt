@@ -3,29 +3,15 @@
 use crate::reader::Reader;
 use crate::say::{counted, put, say};
 use crate::tables::cell_of;
-use bus_signals::{BusEvent, LocalEvent, Response};
+use bus_signals::{BUS_EVENTS, BusEvent, LocalEvent, Response};
 use class_relation::{Cell, LocalAction, SnoopAction, Table, permitted_local, permitted_snoop};
 use class_words::{bus_event_text, is, local_event_text, outcome_of, state_of, state_text};
 use fb_text::Text;
-use moesi_state::{Outcome, State};
+use moesi_state::{Outcome, STATES, State};
 use no_memory::NoMemory;
 use std::alloc::Global;
 use table_check::{CellFault, check, reaches};
 use table_text::{write_answer, write_local_action};
-
-const STATES: [State; 5] = [State::M, State::O, State::E, State::S, State::I];
-
-const BUS_EVENTS: [BusEvent; 9] = [
-    BusEvent::Rd,
-    BusEvent::Rfo,
-    BusEvent::Inv,
-    BusEvent::Urd,
-    BusEvent::Bwr,
-    BusEvent::Uwr,
-    BusEvent::Ubw,
-    BusEvent::Pas,
-    BusEvent::Flu,
-];
 
 /// Appends the state and the event of a cell.
 fn say_cell(text: &mut Text, cell: Cell) -> Result<(), NoMemory> {
@@ -152,7 +138,7 @@ fn say_locals(
 ) -> Result<(), NoMemory> {
     let mut first = true;
     for result in outcomes(alloc)?.iter() {
-        for place in 0..10usize {
+        for place in 0..BUS_EVENTS.len() + 1 {
             let bus = match place.checked_sub(1) {
                 Some(place) => BUS_EVENTS.get(place).copied(),
                 None => None,
