@@ -9,7 +9,7 @@ use Rattle.generator.specs.Generated.{generated}
 use Rattle.generator.specs.Schedule.{seeded_turns}
 use Rattle.tally.specs.Tally.{tally_text}
 use Rattle.fb_cli.specs.Run.{turns_of}
-use Rattle.fb_cli.specs.Tally.{tally_output}
+use Rattle.fb_cli.specs.Tally.{counts_of}
 
 -- The journal of a machine of the generated setup, after the seeded schedule was played on it.
 journal_is : (seed : ℕ) (setup : Setup) (first last : Machine) (accesses : ℕ) (journal : List Event)
@@ -36,7 +36,7 @@ pub counted_output :
       journal = played first.setup (seeded_turns seed (length first.setup.boards) accesses);
     }
     → journal ≡ last.journal → before ≡ [] → bytes ≡ before ++ tally_text seed journal (entries journal)
-    → record { status = 0; text = bytes } ≡ tally_output seed
+    → record { status = 0; text = bytes } ≡ record { status = 0; text = counts_of seed }
 counted_output seed setup first last accesses journal before bytes made start counted turned same empty written =
     let text =
     written

@@ -56,14 +56,14 @@ pub words_more :
     (asked : Found) (files : Option Files) (A : Type 0) (text : Written)
     → IsReady asked files A (Err (Refused NoRow)) → Appends (refusal_output NoRow).text text.bytes
     → ComesTo (explained asked) files A (Explained NoRow text)
-words_more (none Tells) files A text ready more = (text.bytes, more, refl)
+words_more (none Tells) files A text ready more = (refl, more)
 words_more (found command) files A text ready more = absurd ready
 
 pub words_alone :
     (asked : Found) (files : Option Files) (A : Type 0)
     → IsReady asked files A (Err (Refused NoRow)) → ComesTo (explained asked) files A (Refused NoRow)
 words_alone (none Tells) files A ready =
-    let line = (refusal_output NoRow).text in (line, record { more = []; whole = sym (append-nil line) }, refl)
+    (refl, record { more = []; whole = sym (append-nil (refusal_output NoRow).text) })
 words_alone (found command) files A ready = absurd ready
 
 -- A file was not read.

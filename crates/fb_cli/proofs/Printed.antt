@@ -176,7 +176,10 @@ pub does :
     (asked : Found) (files : Option Files) (A B : Type 0) (before after : Option (List ℕ)) (reply : Reply) (status : ℕ)
     → ComesTo asked files A reply → Written (reply_output reply) B before after status
     → Does asked files A B before after status
-does (none Tells) files A B before after reply status (text, told, is) written =
-    (text, told, subst (λ o. Written o B before after status) is written)
+does (none Tells) files A B before after reply status (is, told) written =
+    let o = reply_output reply in
+    (o.text,
+    told,
+    subst (λ (p : Output). Written p B before after status) (λ i. record { status = is i; text = o.text }) written)
 does (found command) files A B before after reply status comes written =
     answers command files A B before after reply status comes written

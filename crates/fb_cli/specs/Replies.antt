@@ -51,8 +51,8 @@ Comes command files shelf_rose (Reply.Explained refusal text) =
 -- What words come to.
 abbrev pub ComesTo : Found → Option Files → Type 0 → Reply → Type 0
 ComesTo (none Tells) files shelf_rose reply =
-    (text : List ℕ) × Tells (refusal_output Refusal.NoRow).text text
-    × (reply_output reply ≡ record { status = 2; text = text })
+    ((reply_output reply).status ≡ 2)
+    × Tells (refusal_output Refusal.NoRow).text (reply_output reply).text
 ComesTo (found command) files shelf_rose reply = Comes command files shelf_rose reply
 
 -- A reply is an answer of this kind, or it tells of a file in such a role that was not read, or
