@@ -124,7 +124,7 @@ pub run_comes :
     {E : Type 0} (name schedule : List ℕ) (files : Option Files) (A : Type 0) (setup : Setup) (turns : List ℕ)
     (came : Result Answer E)
     → IfSome files (λ file. (run name schedule).refusal file ≡ None)
-    → IfSome files (λ file. AreSetup setup (file name) × AreTurns setup (file schedule) turns)
+    → IfSome files (λ file. AreSetup setup (file name) × AreTurns setup turns (file schedule))
     → IfOk came (λ a. answer_output a ≡ record { status = 0; text = played_text setup turns })
     → IfOk came (λ a. IsTextOfRun setup (answer_output a).text)
     → Comes (run name schedule) files A (option_map_or Answered (result_ok came) (Refused NoMemory))

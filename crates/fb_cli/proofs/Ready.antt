@@ -13,6 +13,7 @@ use Rattle.fb_cli.specs.declared.answers.Refusal.TheVariants.{NoRow, Unread, NoM
 use Rattle.fb_cli.specs.declared.answers.Reply.{Reply}
 use Rattle.fb_cli.specs.declared.answers.Reply.TheVariants.{Answered, Refused, Explained}
 use Rattle.fb_cli.specs.declared.role.Role.TheVariants as roles
+use Rattle.fb_cli.specs.declared.running.Scheduled.{Scheduled}
 use Rattle.fb_cli.specs.Report.{is_accepted, report}
 use Rattle.fb_cli.specs.Output.{Output, Files, if_accepted, limit_of, on_read, with_file, within}
 use Rattle.fb_cli.specs.Command.{AreSetup}
@@ -23,7 +24,7 @@ use Rattle.fb_cli.specs.Run.{AreTurns, run, turns_refusal}
 use Rattle.fb_cli.specs.Race.{race}
 use Rattle.fb_cli.specs.Replay.{on_replayed, replay, replay_refusal, trace_refusal}
 use Rattle.fb_cli.proofs.Alike.{if_accepted_is, is_within, with_accepted_is, with_setup_is}
-use Rattle.fb_cli.proofs.Coming.{on_both, on_some}
+use Rattle.fb_cli.proofs.Coming.{on_both, on_some, stops_second}
 
 -- The refusal of the tables that were read.
 abbrev pub tables_refusal : Result (List Table) Fault → Option Output
@@ -81,25 +82,24 @@ race_free name files setup read accepted =
 
 -- A schedule of a setup leaves the tables to be judged.
 pub turns_judged :
-    (setup : Setup) (bytes turns : List ℕ) → length bytes ≤ limit_of roles.Schedule → AreTurns setup bytes turns
+    (setup : Setup) (bytes turns : List ℕ) → AreTurns setup turns bytes
     → turns_refusal setup bytes ≡ if_accepted setup.tables None
-turns_judged setup bytes turns short are =
+turns_judged setup bytes turns are =
     is_within roles.Schedule bytes
-    (on_read roles.Schedule (λ t. if_accepted setup.tables None) (schedule_at (length setup.boards) (unread bytes))) short
-    ∙ ap (on_read roles.Schedule (λ (t : List ℕ). if_accepted setup.tables None)) are
+    (on_read roles.Schedule (λ t. if_accepted setup.tables None) (schedule_at (length setup.boards) (unread bytes))) are.0
+    ∙ ap (on_read roles.Schedule (λ (t : List ℕ). if_accepted setup.tables None)) are.1
 
 -- A run with a schedule.
 pub run_free :
     (name schedule : List ℕ) (files : Option Files) (setup : Setup) (turns : List ℕ)
     → IfSome files (λ file. AreSetup setup (file name))
-    → IfSome files
-    (λ file. (length (file schedule) ≤ limit_of roles.Schedule) × AreTurns setup (file schedule) turns)
+    → IfSome files (λ file. AreTurns setup turns (file schedule))
     → list_all is_accepted setup.tables ≡ true → IfSome files (λ file. (run name schedule).refusal file ≡ None)
 run_free name schedule files setup turns read are accepted =
     on_both files
     (λ file r t.
     with_setup_is (file name) setup (λ s. turns_refusal s (file schedule)) r
-    ∙ turns_judged setup (file schedule) turns t.0 t.1
+    ∙ turns_judged setup (file schedule) turns t
     ∙ if_accepted_is setup.tables None accepted)
     read are
 
@@ -119,3 +119,37 @@ pub trace_free :
     → replayed machine bytes ≡ Ok last → trace_refusal machine bytes ≡ None
 trace_free machine last bytes short is =
     is_within roles.Trace bytes (on_replayed (replayed machine bytes)) short ∙ ap on_replayed is
+
+-- What a schedule is on a setup of a file decides whether the run is ready.
+pub run_ready :
+    (name schedule : List ℕ) (files : Option Files) (A : Type 0) (setup : Setup) (result : Result Scheduled Reply)
+    → IfSome files (λ file. AreSetup setup (file name)) → IfOk result (λ s. s.setup ≡ setup)
+    → IfOk result (λ s. list_all is_accepted s.setup.tables ≡ true)
+    → IfOk result (λ s. IfSome files (λ file. AreTurns setup s.turns.items (file schedule)))
+    → IfErr result
+    (Gives (λ o. IfSome files (λ file. turns_refusal setup (file schedule) ≡ Some o))
+    (λ other. (other ≡ roles.Schedule) × A))
+    → Ready (run name schedule) files A result
+run_ready name schedule files A setup (Ok s) read same accepted turns stops =
+    run_free name schedule files setup s.turns.items read turns
+    (subst (λ (x : Setup). list_all is_accepted x.tables ≡ true) same accepted)
+run_ready name schedule files A setup (Err reply) read same accepted turns stops =
+    stops_second name roles.Schedule (λ s. Unit {0}) (λ file. turns_refusal setup (file schedule))
+    (run name schedule).refusal files A setup reply read tt
+    (λ file r. with_setup_is (file name) setup (λ s. turns_refusal s (file schedule)) r) stops
+
+-- What a trace is on an accepted setup of a file decides whether the replay is ready.
+pub replay_ready :
+    {X : Type 0} (name trace : List ℕ) (files : Option Files) (A : Type 0) (setup : Setup) (result : Result X Reply)
+    → IfSome files (λ file. AreSetup setup (file name)) → list_all is_accepted setup.tables ≡ true
+    → OnOk result (IfSome files (λ file. trace_refusal (opened setup) (file trace) ≡ None))
+    → IfErr result
+    (Gives (λ o. IfSome files (λ file. trace_refusal (opened setup) (file trace) ≡ Some o))
+    (λ other. (other ≡ roles.Trace) × A))
+    → Ready (replay name trace) files A result
+replay_ready name trace files A setup (Ok x) read accepted free stops =
+    replay_free name trace files setup read accepted free
+replay_ready name trace files A setup (Err reply) read accepted free stops =
+    stops_second name roles.Trace (λ s. list_all is_accepted s.tables ≡ true)
+    (λ file. trace_refusal (opened setup) (file trace)) (replay name trace).refusal files A setup reply read accepted
+    (λ file r. with_accepted_is (file name) setup (λ s. trace_refusal (opened s) (file trace)) r accepted) stops

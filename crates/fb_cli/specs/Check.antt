@@ -1,7 +1,6 @@
 -- `check`: the verdict on each table of a text of tables or of a setup.
-use Rattle.std.specs.Prelude.{◌≡◌, ℕ, List, [], ◌∷◌, Bool, false, None, Result, IfOk, codes, if◌then◌else◌}
+use Rattle.std.specs.Prelude.{◌≡◌, ℕ, List, [], ◌∷◌, Bool, false, None, Result, Ok, Err, IfOk, codes, if◌then◌else◌}
 use Rattle.std.specs.Option.{option_map_or}
-use Rattle.std.specs.Result.{result_map}
 use Rattle.std.specs.Str.{bytes_eq}
 use Rattle.class_relation.specs.Tables.{Table}
 use Rattle.fb_text.specs.Unread.{Unread, at_next_line, first}
@@ -15,9 +14,12 @@ is_book u =
     option_map_or (λ word. bytes_eq word (codes "table")) (first (at_next_line u).words) false
 
 -- The tables of a text of tables, or of a setup.
+abbrev pub tables_of : Result Setup Fault → Result (List Table) Fault
+tables_of (Ok setup) = Ok setup.tables
+tables_of (Err fault) = Err fault
+
 abbrev pub tables_at : Unread → Result (List Table) Fault
-tables_at u =
-    if is_book u then book_at u else result_map (λ (setup : Setup). setup.tables) (setup_at u)
+tables_at u = if is_book u then book_at u else tables_of (setup_at u)
 
 -- The command on a file of this name: it prints the report on the tables.
 abbrev pub check : (setup : List ℕ) → Command

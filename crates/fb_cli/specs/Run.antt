@@ -1,9 +1,9 @@
 -- `run`: a setup played by a schedule, or by the seeded schedule of a number.
-use Rattle.std.specs.Prelude.{◌≡◌, ℕ, List, [], ◌∷◌, length, Option, None, Ok}
+use Rattle.std.specs.Prelude.{◌≡◌, ◌≤◌, ℕ, List, [], ◌∷◌, length, Option, None, Ok}
 use Rattle.setup_text.specs.Reading.{schedule_at}
 use Rattle.bus_model.specs.Setup.{access_count}
 use Rattle.generator.specs.Schedule.{seeded_turns}
-use Rattle.fb_cli.specs.Command.{unread, setup_at, Role, Setup, Output, with_file, if_accepted, with_accepted, Command, on_files, setup_file, file_on}
+use Rattle.fb_cli.specs.Command.{unread, setup_at, Role, limit_of, Setup, Output, with_file, if_accepted, with_accepted, Command, on_files, setup_file, file_on}
 use Rattle.fb_cli.specs.Headline.{opening, after_all, run_text, IsRunOf}
 pub use Rattle.bus_model.specs.Turns.{played}
 
@@ -20,9 +20,11 @@ turns_of seed setup = seeded_turns seed (length setup.boards) (access_count setu
 abbrev pub setup_refusal : List ℕ → Option Output
 setup_refusal bytes = with_accepted bytes (λ s. None)
 
--- The turns of a schedule of these bytes on a setup.
+-- These bytes are within the limit of a schedule, and are these turns of a setup.
 abbrev pub AreTurns : Setup → List ℕ → List ℕ → Type 0
-AreTurns setup bytes turns = schedule_at (length setup.boards) (unread bytes) ≡ Ok turns
+AreTurns setup turns bytes =
+    (length bytes ≤ limit_of Role.Schedule)
+    × (schedule_at (length setup.boards) (unread bytes) ≡ Ok turns)
 
 -- The refusal of a schedule of these bytes on a setup, and then of the tables of the setup.
 abbrev pub turns_refusal : Setup → List ℕ → Option Output
@@ -38,7 +40,7 @@ run setup schedule =
     with_file Role.Setup setup_at (bytes_of setup) (λ s. turns_refusal s (bytes_of schedule)))
     (λ bytes_of text.
     (r : IsRunOf (bytes_of setup) text)
-    × ((turns : List ℕ) × AreTurns r.setup (bytes_of schedule) turns
+    × ((turns : List ℕ) × AreTurns r.setup turns (bytes_of schedule)
     × (text ≡ played_text r.setup turns)))
 
 -- The command on a file and a number.

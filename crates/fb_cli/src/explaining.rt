@@ -76,7 +76,7 @@ fn ready<F: Shelf>(
         return done(running::ready_setup(alloc, setup, shelf, seen));
     }
     if let Some((setup, trace)) = files_after("replay", words) {
-        return replaying::ready(alloc, setup, trace, shelf, seen);
+        return done(replaying::ready(alloc, setup, trace, shelf, seen));
     }
     is_fileless(words)
 }

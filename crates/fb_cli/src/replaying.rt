@@ -214,14 +214,14 @@ fn replay_bytes(machine: Machine, bytes: &[u8]) -> Result<Machine, ReplayFault>
     replay.finish()
 }
 
-/// Whether a file's trace is replayed, on a setup whose tables are accepted. The trace is kept.
+/// The machine of a file's trace, on a setup whose tables are accepted. The trace is kept.
 fn kept<F: Shelf>(
     alloc: Global,
     setup: Setup,
     name: &str,
     shelf: &mut F,
     seen: &mut Seen,
-) -> Result<(), Reply>
+) -> Result<Machine, Reply>
     requires { list_all is_accepted setup.tables ≡ true }
     ensures free { OnOk result (IfSome (F.file shelf.old)
         (λ file. trace_refusal (opened setup) (file name.now) ≡ None)) }
@@ -237,19 +237,19 @@ fn kept<F: Shelf>(
     let replayed = replay_bytes(machine, &bytes);
     seen.keep(Role::Trace, bytes);
     match replayed {
-        Ok(_) => Ok(()),
+        Ok(machine) => Ok(machine),
         Err(fault) => Err(Reply::of(trace_answer(alloc, fault))),
     }
 }
 
-/// Whether the trace of a file is replayed on the setup of another. Both are kept.
+/// The machine of the trace of a file, on the setup of another. Both files are kept.
 pub fn ready<F: Shelf>(
     alloc: Global,
     name: &str,
     trace: &str,
     shelf: &mut F,
     seen: &mut Seen,
-) -> Result<(), Reply>
+) -> Result<Machine, Reply>
     ensures { Ready (replay name.now trace.now) (F.file shelf.old)
         (Rose (F.faults shelf.old) (F.faults shelf.new)) result }
 {

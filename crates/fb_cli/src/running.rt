@@ -74,7 +74,7 @@ fn with_turns<F: Shelf>(
     ensures places { IfOk result
         (λ s. AllByRecursion (λ p. (1 ≤ p) × (p ≤ length s.setup.boards)) s.turns.items) }
     ensures turns { IfOk result (λ s. IfSome (F.file shelf.old)
-        (λ file. AreTurns setup (file name.now) s.turns.items)) }
+        (λ file. AreTurns setup s.turns.items (file name.now))) }
     ensures stops { IfErr result (Gives
         (λ o. IfSome (F.file shelf.old) (λ file. turns_refusal setup (file name.now) ≡ Some o))
         (λ role. (role ≡ Role.Schedule) × (Rose (F.faults shelf.old) (F.faults shelf.new)))) }
@@ -101,7 +101,7 @@ pub fn ready<F: Shelf>(
         (λ s. AllByRecursion (λ p. (1 ≤ p) × (p ≤ length s.setup.boards)) s.turns.items) }
     ensures read { IfOk result (λ s. IfSome (F.file shelf.old) (λ file.
         AreSetup s.setup (file name.now)
-        × AreTurns s.setup (file schedule.now) s.turns.items)) }
+        × AreTurns s.setup s.turns.items (file schedule.now))) }
 {
     match open_setup(alloc, name, shelf, seen) {
         Ok(setup) => with_turns(alloc, setup, schedule, shelf, seen),
