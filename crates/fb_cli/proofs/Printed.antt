@@ -177,9 +177,10 @@ pub does :
     → ComesTo asked files A reply → Written (reply_output reply) B before after status
     → Does asked files A B before after status
 does (none Tells) files A B before after reply status (is, told) written =
-    let o = reply_output reply in
-    (o.text,
-    told,
-    subst (λ (p : Output). Written p B before after status) (λ i. record { status = is i; text = o.text }) written)
+    let o = reply_output reply in (
+      o.text,
+      told,
+      subst (λ (p : Output). Written p B before after status) (λ i. record { status = is i; text = o.text }) written,
+    )
 does (found command) files A B before after reply status comes written =
     answers command files A B before after reply status comes written
