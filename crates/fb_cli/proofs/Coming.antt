@@ -52,6 +52,19 @@ reading_stops role read files name A (Refused (Unread other)) stops = stops
 reading_stops role read files name A (Refused NoMemory) stops = tt
 reading_stops role read files name A (Explained refusal text) stops = absurd stops
 
+-- What stops a command at a file stops it whatever is wanted of the file.
+pub stops_at :
+    {W : Type 0} (role : Role) (files : Option Files) (name : List ℕ) (A : Type 0) (asks : List ℕ → W → Option Output)
+    (rest : Files → W) (reply : Reply)
+    → StopsAt role files name A asks reply
+    → Gives (λ o. IfSome files (λ file. asks (file name) (rest file) ≡ Some o)) (λ other. (other ≡ role) × A) reply
+stops_at role None name A asks rest (Answered a) stops = tt
+stops_at role (Some file) name A asks rest (Answered a) stops = stops (rest file)
+stops_at role files name A asks rest (Refused NoRow) stops = absurd stops
+stops_at role files name A asks rest (Refused (Unread other)) stops = stops
+stops_at role files name A asks rest (Refused NoMemory) stops = tt
+stops_at role files name A asks rest (Explained refusal text) stops = absurd stops
+
 -- A command that stops at its first file.
 pub stops_first :
     {W : Type 0} (name : List ℕ) (more : List File) (asks : List ℕ → W → Option Output) (pick : Files → W)

@@ -10,7 +10,7 @@ use Rattle.fb_cli.specs.declared.answers.Refusal.TheVariants.{NoRow, Unread, NoM
 use Rattle.fb_cli.specs.declared.answers.Reply.{Reply}
 use Rattle.fb_cli.specs.declared.answers.Reply.TheVariants.{Answered, Refused, Explained}
 use Rattle.fb_cli.specs.declared.role.Role.{Role}
-use Rattle.fb_cli.specs.Output.{Output, Files, refusal_output}
+use Rattle.fb_cli.specs.Output.{Output, Files, Refusal, refusal_output}
 use Rattle.fb_cli.specs.Command.{Command, Follows, Found, none, found, known, printing}
 use Rattle.fb_cli.specs.Explain.{explained}
 use Rattle.fb_cli.specs.Replies.{Comes, ComesTo, IsReady, answer_output}
@@ -39,8 +39,8 @@ free_comes (found command) files A (Explained NoMemory text) ready came = came
 
 -- The command stops with an answer, to which more is added.
 pub answer_more :
-    {E : Type 0} (asked : Found) (files : Option Files) (A : Type 0) (a : Answer) (came : Result Answer E)
-    → IsReady asked files A (Err (Answered a)) → IfOk came (λ m. (answer_output m).status ≡ (answer_output a).status)
+    {X E : Type 0} (asked : Found) (files : Option Files) (A : Type 0) (a : Answer) (came : Result Answer E)
+    → IsReady {X} asked files A (Err (Answered a)) → IfOk came (λ m. (answer_output m).status ≡ (answer_output a).status)
     → IfOk came (λ m. Appends (answer_output a).text (answer_output m).text)
     → ComesTo (explained asked) files A (option_map_or Answered (result_ok came) (Refused NoMemory))
 answer_more (none Tells) files A a came ready same more = absurd cc
@@ -51,38 +51,49 @@ answer_more (found command) files A a (Ok m) ready same more =
     ready
 answer_more (found command) files A a (Err e) ready same more = refl
 
+-- A text is itself with nothing after it.
+pub appends_none : (text : List ℕ) → Appends text text
+appends_none text = record { more = []; whole = sym (append-nil text) }
+
 -- Words ask for no command.
 pub words_more :
-    (asked : Found) (files : Option Files) (A : Type 0) (text : Written)
-    → IsReady asked files A (Err (Refused NoRow)) → Appends (refusal_output NoRow).text text.bytes
+    {X : Type 0} (asked : Found) (files : Option Files) (A : Type 0) (text : Written)
+    → IsReady {X} asked files A (Err (Refused NoRow)) → Appends (refusal_output NoRow).text text.bytes
     → ComesTo (explained asked) files A (Explained NoRow text)
 words_more (none Tells) files A text ready more = (refl, more)
 words_more (found command) files A text ready more = absurd ready
 
 pub words_alone :
-    (asked : Found) (files : Option Files) (A : Type 0)
-    → IsReady asked files A (Err (Refused NoRow)) → ComesTo (explained asked) files A (Refused NoRow)
+    {X : Type 0} (asked : Found) (files : Option Files) (A : Type 0)
+    → IsReady {X} asked files A (Err (Refused NoRow)) → ComesTo (explained asked) files A (Refused NoRow)
 words_alone (none Tells) files A ready =
-    (refl, record { more = []; whole = sym (append-nil (refusal_output NoRow).text) })
+    (refl, appends_none (refusal_output NoRow).text)
 words_alone (found command) files A ready = absurd ready
 
 -- A file was not read.
 pub unread_more :
-    (asked : Found) (files : Option Files) (A : Type 0) (role : Role) (text : Written)
-    → IsReady asked files A (Err (Refused (Unread role))) → Appends (refusal_output (Unread role)).text text.bytes
+    {X : Type 0} (asked : Found) (files : Option Files) (A : Type 0) (role : Role) (text : Written)
+    → IsReady {X} asked files A (Err (Refused (Unread role))) → Appends (refusal_output (Unread role)).text text.bytes
     → ComesTo (explained asked) files A (Explained (Unread role) text)
 unread_more (none Tells) files A role text ready more = absurd cc
 unread_more (found command) files A role text ready more = (ready, more)
 
 -- Memory ran out after a file was not read, or before.
 pub unread_short :
-    (asked : Found) (files : Option Files) (A : Type 0) (role : Role)
-    → IsReady asked files A (Err (Refused (Unread role))) → ComesTo (explained asked) files A (Refused NoMemory)
+    {X : Type 0} (asked : Found) (files : Option Files) (A : Type 0) (role : Role)
+    → IsReady {X} asked files A (Err (Refused (Unread role))) → ComesTo (explained asked) files A (Refused NoMemory)
 unread_short (none Tells) files A role ready = absurd cc
 unread_short (found command) files A role ready = refl
 
 pub memory_short :
-    (asked : Found) (files : Option Files) (A : Type 0)
-    → IsReady asked files A (Err (Refused NoMemory)) → ComesTo (explained asked) files A (Refused NoMemory)
+    {X : Type 0} (asked : Found) (files : Option Files) (A : Type 0)
+    → IsReady {X} asked files A (Err (Refused NoMemory)) → ComesTo (explained asked) files A (Refused NoMemory)
 memory_short (none Tells) files A ready = absurd cc
 memory_short (found command) files A ready = refl
+
+-- Nothing is explained before `explain` does so.
+pub explained_alone :
+    {X : Type 0} (asked : Found) (files : Option Files) (A : Type 0) (refusal : Refusal) (text : Written)
+    → IsReady {X} asked files A (Err (Explained refusal text)) → ComesTo (explained asked) files A (Explained refusal text)
+explained_alone (none Tells) files A refusal text ready = absurd cc
+explained_alone (found command) files A refusal text ready = absurd ready
