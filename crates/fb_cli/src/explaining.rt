@@ -35,19 +35,31 @@ mod tests;
 fn is_fileless(words: &[String]) -> Result<(), Reply>
     ensures { IsReady (command_in fileless_rows (map string_bytes words.now)) None ⊥ result }
 {
-    let found = seed_after("make", words).is_some()
-        || seed_after("tally", words).is_some()
-        || alone_is("help", words).is_some()
-        || alone_is("-h", words).is_some()
-        || alone_is("--help", words).is_some()
-        || page_after("help", words).is_some()
-        || alone_is("version", words).is_some()
-        || alone_is("--version", words).is_some();
-    if found {
-        Ok(())
-    } else {
-        Err(Reply::Refused(Refusal::NoRow))
+    if let Some(_) = seed_after("make", words) {
+        return Ok(());
     }
+    if let Some(_) = seed_after("tally", words) {
+        return Ok(());
+    }
+    if let Some(_) = alone_is("help", words) {
+        return Ok(());
+    }
+    if let Some(_) = alone_is("-h", words) {
+        return Ok(());
+    }
+    if let Some(_) = alone_is("--help", words) {
+        return Ok(());
+    }
+    if let Some(_) = page_after("help", words) {
+        return Ok(());
+    }
+    if let Some(_) = alone_is("version", words) {
+        return Ok(());
+    }
+    if let Some(_) = alone_is("--version", words) {
+        return Ok(());
+    }
+    Err(Reply::Refused(Refusal::NoRow))
 }
 
 /// What stands before the command of words is done: nothing, or the reply with which it stops.
