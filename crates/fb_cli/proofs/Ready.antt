@@ -120,28 +120,6 @@ pub trace_free :
 trace_free machine last bytes short is =
     is_within roles.Trace bytes (on_replayed (replayed machine bytes)) short ∙ ap on_replayed is
 
--- A schedule of a file is one of the setup.
-pub turns_are :
-    (setup : Setup) (name turns : List ℕ) (files : Option Files)
-    → IfSome files (λ file. length (file name) ≤ limit_of roles.Schedule)
-    → IfSome files (λ file. schedule_at (length setup.boards) (unread (file name)) ≡ Ok turns)
-    → IfSome files (λ file. AreTurns setup turns (file name))
-turns_are setup name turns files short is = on_both files (λ file s t. (s, t)) short is
-
--- The tables of a setup stop a run with a schedule.
-pub judged_stops :
-    (setup : Setup) (name turns : List ℕ) (files : Option Files) (A : Type 0) (reply : Reply)
-    → IfSome files (λ file. AreTurns setup turns (file name))
-    → Gives (λ o. (rest : Option Output) → if_accepted setup.tables rest ≡ Some o) (λ role. ⊥) reply
-    → Gives (λ o. IfSome files (λ file. turns_refusal setup (file name) ≡ Some o))
-    (λ other. (other ≡ roles.Schedule) × A) reply
-judged_stops setup name turns files A (Answered a) are stops =
-    on_some files (λ file t. turns_judged setup (file name) turns t ∙ stops None) are
-judged_stops setup name turns files A (Refused NoRow) are stops = absurd stops
-judged_stops setup name turns files A (Refused (Unread role)) are stops = absurd stops
-judged_stops setup name turns files A (Refused NoMemory) are stops = tt
-judged_stops setup name turns files A (Explained refusal text) are stops = absurd stops
-
 -- What a schedule is on a setup of a file decides whether the run is ready.
 pub run_ready :
     (name schedule : List ℕ) (files : Option Files) (A : Type 0) (setup : Setup) (result : Result Scheduled Reply)
