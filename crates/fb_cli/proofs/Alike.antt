@@ -96,8 +96,8 @@ pub ends_alike :
     → IsEnding (opened setup) (run_text setup events (after_all (opening setup) events))
     (ending setup events (after_all (opening setup) events))
 ends_alike setup events holds =
-    subst {X = Result Machine ReplayFault}
-    (λ r.
+    subst
+    (λ (r : Result Machine ReplayFault).
     IfOk r
     (λ (m : Machine). ending setup events (after_all (opening setup) events) ≡ ending m.setup m.journal (configuration m)))
     (sym (run_replayed setup events holds)) refl

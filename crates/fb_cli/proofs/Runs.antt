@@ -56,7 +56,7 @@ holds setup events well accepted runs complete spelled fit legal = record {
 }
 
 -- The run of a finished machine of a setup of these bytes.
-pub of_run :
+abbrev pub of_run :
     (bytes : List ℕ) (setup : Setup) (text : List ℕ) → AreSetup setup bytes → IsTextOfRun setup text
     → IsRunOf bytes text
 of_run bytes setup text read run = record {
