@@ -58,7 +58,8 @@ filled-spent counts zero = refl
 filled-spent counts (suc k) = filled-spent-index counts k
 
 put-keeps-spent : (here held : Bool) (rack : Rack) (b l : ℕ) (state : State) (words : List ℕ)
-    → (counts_at (cond here (rack_changed rack b l state words) (cond held (rack_filled rack b l state words) rack)).counts
+    → (counts_at
+    (cond here (rack_changed rack b l state words) (cond held (rack_filled rack b l state words) rack)).counts
     b).spent ≡ (counts_at rack.counts b).spent
 put-keeps-spent true held rack b l state words = refl
 put-keeps-spent false true rack b l state words = filled-spent rack.counts b

@@ -109,7 +109,9 @@ sum-within f k [] (s ∷ scripts) long each = absurd (omega arith)
 sum-within f k (x ∷ xs) [] long each = absurd (omega arith)
 sum-within f k (x ∷ xs) (s ∷ scripts) long each =
     let next : (j : ℕ) → f (suc k + j) ≤ length (unwrap_or (slice_get scripts j) []) =
-    λ j. let e : k + suc j ≡ suc k + j = omega arith in subst (λ (n : ℕ). f n ≤ length (unwrap_or (slice_get scripts j) [])) e (each (suc j)) in
+    λ j.
+    let e : k + suc j ≡ suc k + j = omega arith in
+    subst (λ (n : ℕ). f n ≤ length (unwrap_or (slice_get scripts j) [])) e (each (suc j)) in
     let here : f k ≤ length s = let e : k + 0 ≡ k = omega arith in subst (λ (n : ℕ). f n ≤ length s) e (each 0) in
     let rest = sum-within f (suc k) xs scripts (omega arith) next in
     let left = sum_by-cons f k (places_from (suc k) xs) in

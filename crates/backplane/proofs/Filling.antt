@@ -135,7 +135,9 @@ purpose-room setup events c t access well sound present (inl f) absent held =
     let not_full : is_full setup c.rows t.master t.line ≡ false =
     false_from_ne_true (is_full setup c.rows t.master t.line)
     (λ full. both_ways (holds (master_state t)) (gone (f.room full)) held) in
-    let reached = reached_local (table_of setup t.master) (state_at c.rows t.master (access_line access)) (kind_of access) (record { result = t.outcome; bus = Some t.event }) (responses t.answers).ch
+    let reached =
+    reached_local (table_of setup t.master) (state_at c.rows t.master (access_line access)) (kind_of access)
+    (record { result = t.outcome; bus = Some t.event }) (responses t.answers).ch
     (reached_at setup c.rows c.boards t.master (access_line access) sound.rows.each) f.alternative in
     room-is setup c.rows t.master t.line (master_state t) well (board_there setup c.boards t.master access well present)
     reached held absent not_full

@@ -7,7 +7,8 @@ use Rattle.bus_model.specs.Setup.{Setup, BoardSpec, number_of}
 use Rattle.bus_model.specs.Events.{Grant, Raise, Transaction}
 use Rattle.bus_model.specs.Configuration.{Configuration, Progress, Idle, Granted, Connected, fresh, is_raised}
 use Rattle.bus_model.specs.Arbitration.{competing, competing_numbers, winner_of}
-use Rattle.bus_model.specs.Turns.{Did, Waits, BusTaken, grant_turn, request_turn}
+use Rattle.bus_model.specs.Turns.{Did, Waits, BusTaken}
+use Rattle.bus_model.specs.TurnParts.{grant_turn, request_turn}
 use Rattle.bus_model.specs.Settling.{highest, settled_lines, settled_rounds}
 use Rattle.arbiter.specs.Raised.{Requests, raised_numbers, winner_from, winner_with, competitors, has_raised}
 use Rattle.backplane.specs.declared.parts.Parts.{Parts}

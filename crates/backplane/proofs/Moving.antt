@@ -10,7 +10,8 @@ use Rattle.bus_model.specs.Configuration.{Configuration, Phase, Idle, Granted, C
 use Rattle.bus_model.specs.Carrying.{carried_of}
 use Rattle.bus_model.specs.Soundness.{Sound}
 use Rattle.bus_model.specs.Steps.{Can}
-use Rattle.bus_model.specs.Turns.{Did, own_transaction, turn_for, access_turn}
+use Rattle.bus_model.specs.Turns.{Did, own_transaction}
+use Rattle.bus_model.specs.TurnParts.{turn_for, access_turn}
 use Rattle.coherence.proofs.Progress.{board_there}
 use Rattle.coherence.proofs.Turns.{turns_are_steps}
 use Rattle.coherence.proofs.Replies.{every_history_is_legal}

@@ -15,7 +15,8 @@ use Rattle.bus_model.specs.Events.{Event}
 use Rattle.bus_model.specs.Configuration.{Configuration, Row, Phase, Idle, Granted, Connected, state_at, progress_of, is_connected}
 use Rattle.bus_model.specs.Board.{access_line, victim}
 use Rattle.bus_model.specs.Soundness.{Sound}
-use Rattle.bus_model.specs.Turns.{pick, decide, victim_for, own_transaction, action_turn, access_turn}
+use Rattle.bus_model.specs.Turns.{pick, decide, victim_for, own_transaction}
+use Rattle.bus_model.specs.TurnParts.{action_turn, access_turn}
 use Rattle.board.specs.Rack.{Counts, counts_at, picked, setup_of}
 use Rattle.connect_phase.proofs.Showing.{spent-place}
 use Rattle.coherence.proofs.Victims.{victim_state}

@@ -40,7 +40,8 @@ impl Model for Machine {
 
     ghost view = { λ m. record { setup = m.setup; journal = m.journal.items } };
 
-    ghost invariant = { λ m. Stands m.setup m.journal.items (vec_capacity m.journal) m.parts m.histories };
+    ghost invariant = { λ m.
+        Stands m.setup m.journal.items (vec_capacity m.journal) m.parts m.histories };
 }
 
 impl Machine {

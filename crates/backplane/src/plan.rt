@@ -10,7 +10,8 @@ ghost use Rattle.bus_model.specs.Steps.{is_quiet};
 ghost use Rattle.bus_model.specs.Events.{Event};
 ghost use Rattle.bus_model.specs.Soundness.{Sound};
 ghost use Rattle.arbiter.specs.Raised.{has_raised};
-ghost use Rattle.bus_model.specs.Turns.{local_turn, grant_turn, request_turn, bus_turn, room_turn, transaction_turn, access_turn, own_transaction, victim_for};
+ghost use Rattle.bus_model.specs.Turns.{own_transaction, victim_for};
+ghost use Rattle.bus_model.specs.TurnParts.{local_turn, grant_turn, request_turn, bus_turn, room_turn, transaction_turn, access_turn};
 ghost use Rattle.backplane.specs.Parts.{PartsShow, IsPartOf, phase_of};
 ghost use Rattle.backplane.specs.Plans.{planned};
 

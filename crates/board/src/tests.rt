@@ -319,7 +319,8 @@ fn shows_same(rack: &Rack, board: BoardNo, listed: &ListedBoard) -> bool
     rack.fills(board) == listed.fills()
 }
 
-// Two boards take frames from the one pool. The first has two sets, of which lines 0, 2 and 4 share one.
+// Two boards take frames from the one pool. The first has two sets, of which lines 0, 2 and 4 share
+// one.
 #[test]
 fn a_pool_shows_what_lists_show(rt: HostRuntime) -> Result<(), Fail> {
     let alloc = rt.alloc();

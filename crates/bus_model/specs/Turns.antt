@@ -82,90 +82,76 @@ bus_holder Idle = 0
 bus_holder (Granted board) = board
 bus_holder (Connected t) = t.master
 
--- The transaction of a board that is connected, where the turn is its data phase (case 2).
+-- The transaction of a board that is connected, if it is this board's.
 abbrev pub own_transaction : Phase → ℕ → Option Transaction
 own_transaction Idle board = None
 own_transaction (Granted b) board = None
 own_transaction (Connected t) board = if t.master == board then Some t else None
-
--- A turn without the bus (case 3): the board completes its access, or waits for a line that is
--- held.
-abbrev pub local_turn : Setup → Configuration → ℕ → Access → State → Turn
-local_turn setup c board access state =
-    let line = access_line access in
-    let before = state_at c.rows board line in
-    if is_held c.phase board line && not (is_quiet access before state)
-    then Waits (LineHeld (bus_holder c.phase) line)
-    else Did (Local board before state
-    (record { access = access; reply = reply_of access (words_at c.rows board line) }))
-
--- The grant of a turn (case 7).
-abbrev pub grant_turn : Setup → Configuration → ℕ → Turn
-grant_turn setup c board =
-    let numbers = competing_numbers setup c.boards in
-    Did (Grant board (winner_of setup c.boards) (settled_lines numbers) (settled_rounds numbers))
-
--- A turn of a board that has no grant and needs the bus: it raises a request (case 6), with a
--- request raised it grants the bus where the bus is idle (case 7), and else it waits (case 8).
-abbrev pub request_turn : Setup → Configuration → ℕ → Bool → Phase → Turn
-request_turn setup c board false phase = Did (Raise board)
-request_turn setup c board true Idle = grant_turn setup c board
-request_turn setup c board true (Granted b) = Waits (BusTaken b)
-request_turn setup c board true (Connected t) = Waits (BusTaken t.master)
-
--- A turn for a transaction: a board that is granted the bus connects (case 5).
-abbrev pub bus_turn : Setup → Configuration → ℕ → ℕ → BusEvent → Outcome → Bool → Turn
-bus_turn setup c board line event outcome true =
-    Did (Connect (transaction_of setup c board line event outcome))
-bus_turn setup c board line event outcome false =
-    request_turn setup c board (is_raised c.boards board) c.phase
-
--- A turn that must first make room by a victim: a clean victim is dropped unless its line is held,
--- and any other is flushed (case 4).
-abbrev pub room_turn : Setup → Configuration → ℕ → ℕ → State → Bool → Turn
-room_turn setup c board line state true =
-    if is_held c.phase board line
-    then Waits (LineHeld (bus_holder c.phase) line)
-    else Did (Drop board line state)
-room_turn setup c board line state false =
-    bus_turn setup c board line Flu (Fixed I) (is_granted c.phase board)
-
--- A turn by a transaction, once it is known whether there must be a victim.
-abbrev pub transaction_turn :
-    Setup → Configuration → ℕ → Access → BusEvent → Outcome → Option (ℕ × State) → Turn
-transaction_turn setup c board access event outcome None =
-    bus_turn setup c board (access_line access) event outcome (is_granted c.phase board)
-transaction_turn setup c board access event outcome (Some v) =
-    room_turn setup c board v.0 v.1 (is_clean v.1)
 
 -- The victim that must go before an outcome: none where the outcome leaves no copy.
 abbrev pub victim_for : Setup → Configuration → ℕ → Access → Outcome → Option (ℕ × State)
 victim_for setup c board access outcome =
     if is_invalid outcome then None else victim setup c.rows board (access_line access)
 
--- A turn with the alternative that the board picks.
-abbrev pub action_turn : Setup → Configuration → ℕ → Access → Outcome → Option BusEvent → Turn
-action_turn setup c board access outcome None =
-    local_turn setup c board access (settled outcome false)
-action_turn setup c board access outcome (Some event) =
-    transaction_turn setup c board access event outcome (victim_for setup c board access outcome)
-
--- A turn for the present access.
-abbrev pub access_turn : Setup → Configuration → ℕ → Access → Option Transaction → Turn
-access_turn setup c board access (Some t) = Did (DataPhase (carried_of setup c t))
-access_turn setup c board access None =
-    let action = decide setup c board access in
-    action_turn setup c board access action.result action.bus
-
--- A turn of a board, by what it has still to do: without an access it is finished (case 1).
-abbrev pub turn_for : Setup → Configuration → ℕ → Option Access → Turn
-turn_for setup c board None = Finished
-turn_for setup c board (Some access) =
-    access_turn setup c board access (own_transaction c.phase board)
-
--- A turn of a board. The cases of its parts are numbered in the order in which they are tried.
+-- What a turn of a board does: the first of these eight cases that fits. Cases 5 to 8 are those of
+-- a transaction: the pick's, or the flush of a victim.
 abbrev pub turn : Setup → Configuration → ℕ → Turn
-turn setup c board = turn_for setup c board (present_access setup c.boards board)
+turn setup c board =
+    elim (present_access setup c.boards board) [
+      -- 1. The script is at its end.
+      | None ↦ Finished
+      | Some access ↦
+          elim (own_transaction c.phase board) [
+            -- 2. The board is connected.
+            | Some t ↦ Did (DataPhase (carried_of setup c t))
+            | None ↦
+                let chosen = decide setup c board access in
+                let line = access_line access in
+                elim chosen.bus [
+                  -- 3. The pick needs no bus.
+                  | None ↦
+                      let before = state_at c.rows board line in
+                      let next = settled chosen.result false in
+                      let reply = reply_of access (words_at c.rows board line) in
+                      if is_held c.phase board line && not (is_quiet access before next)
+                      then Waits (LineHeld (bus_holder c.phase) line)
+                      else Did (Local board before next
+                      (record { access = access; reply = reply }))
+                  | Some event ↦
+                      elim (victim_for setup c board access chosen.result) [
+                        | None ↦ by_bus line event chosen.result
+                        -- 4. A victim must go first.
+                        | Some v ↦
+                            if is_clean v.1
+                            then (if is_held c.phase board v.0
+                            then Waits (LineHeld (bus_holder c.phase) v.0)
+                            else Did (Drop board v.0 v.1))
+                            else by_bus v.0 Flu (Fixed I)
+                      ]
+                ]
+          ]
+    ]
+  where
+    by_bus : ℕ → BusEvent → Outcome → Turn
+    by_bus line event outcome =
+        -- 5. The bus is granted to the board.
+        if is_granted c.phase board
+        then Did (Connect (transaction_of setup c board line event outcome))
+        -- 6. No request is raised.
+        else elim (is_raised c.boards board) [
+          | false ↦ Did (Raise board)
+          | true ↦
+              elim c.phase [
+                -- 7. The bus is idle: whoever wins gets it.
+                | Idle ↦
+                    let numbers = competing_numbers setup c.boards in
+                    Did (Grant board (winner_of setup c.boards) (settled_lines numbers)
+                    (settled_rounds numbers))
+                -- 8. Another board has the bus.
+                | Granted b ↦ Waits (BusTaken b)
+                | Connected t ↦ Waits (BusTaken t.master)
+              ]
+        ]
 
 -- The events of these turns, one after another.
 abbrev pub events_of_turns : Setup → Configuration → List ℕ → List Event

@@ -12,7 +12,8 @@ use Rattle.bus_model.specs.Laws.{TurnsAreSteps}
 use Rattle.bus_model.specs.Setup.{AllInClass, Setup, WellFormed, board_places, choose_of, line_count, number_of, table_of}
 use Rattle.bus_model.specs.Soundness.{Sound}
 use Rattle.bus_model.specs.Steps.{Can, ForVictim, is_quiet}
-use Rattle.bus_model.specs.Turns.{Did, LineHeld, Waits, access_turn, action_turn, bus_holder, bus_turn, decide, decide_answer, local_turn, own_transaction, request_turn, room_turn, transaction_of, transaction_turn, turn_for, victim_for}
+use Rattle.bus_model.specs.Turns.{Did, LineHeld, Waits, bus_holder, decide, decide_answer, own_transaction, transaction_of, victim_for}
+use Rattle.bus_model.specs.TurnParts.{access_turn, action_turn, bus_turn, local_turn, request_turn, room_turn, transaction_turn, turn_for}
 use Rattle.bus_signals.specs.Accesses.{kind_of}
 use Rattle.bus_signals.specs.declared.Access.{Access}
 use Rattle.bus_signals.specs.declared.BusEvent.{BusEvent}

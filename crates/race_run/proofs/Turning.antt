@@ -15,7 +15,8 @@ use Rattle.bus_model.specs.Carrying.{reply_of}
 use Rattle.bus_model.specs.Steps.{Can, after, is_quiet}
 use Rattle.bus_model.specs.Runs.{Leads, Run, after_all}
 use Rattle.bus_model.specs.Soundness.{Sound}
-use Rattle.bus_model.specs.Turns.{Turn, Did, Waits, Finished, LineHeld, turn, turn_for, access_turn, action_turn, transaction_turn, room_turn, bus_turn, request_turn, local_turn, victim_for, decide, own_transaction, bus_holder}
+use Rattle.bus_model.specs.Turns.{Turn, Did, Waits, Finished, LineHeld, turn, victim_for, decide, own_transaction, bus_holder}
+use Rattle.bus_model.specs.TurnParts.{turn_for, access_turn, action_turn, transaction_turn, room_turn, bus_turn, request_turn, local_turn}
 use Rattle.coherence.proofs.Steps.{every_run_is_sound}
 use Rattle.coherence.proofs.Turns.{turns_are_steps}
 use Rattle.backplane.specs.declared.moved.Moved.{Moved}

@@ -113,8 +113,8 @@ impl Bells {
         }
     }
 
-    // Wakes the worker of a board if it rests, gives it a place, and says whether it did. A worker that wakes and finds its
-    // bit gone knows that it has a place.
+    // Wakes the worker of a board if it rests, gives it a place, and says whether it did. A worker
+    // that wakes and finds its bit gone knows that it has a place.
     fn give_place(&self, board: BoardNo) -> bool {
         let resting = self.resting.fetch_and(!bit(board), Ordering::SeqCst);
         if resting & bit(board) == 0 {
@@ -124,7 +124,8 @@ impl Bells {
         true
     }
 
-    // Gives a place to the next board above this one whose worker rests, or else to the lowest, and says whether it did.
+    // Gives a place to the next board above this one whose worker rests, or else to the lowest, and
+    // says whether it did.
     fn give_place_on(&self, board: BoardNo) -> bool {
         let resting = self.resting.load(Ordering::SeqCst);
         let above = resting & !bit(board).wrapping_mul(2).wrapping_sub(1);

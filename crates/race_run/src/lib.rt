@@ -24,17 +24,19 @@
 //! turn to each other without sleeping, and their boards mostly have the bus by turns: while one
 //! has it the other requests it, and is granted it next.
 //!
-//! - **Place.** A worker that has made 240 events since its last rest gives its place to the next board above its own whose
-//! worker rests, or else to the lowest. So the places go round all boards. A worker whose board's
-//! script is at its end gives its place on in the same way, or leaves it free if nobody rests, and
-//! a worker without a place takes a free one.
-//! - **Rest.** Any other worker without a place rests, on the bell of its board. A rest ends when another worker rings the
-//!   bell, or after ten milliseconds, so a race goes on even if nobody rings.
-//! - **Visit.** After each rest a worker makes two turns, even without a place. A worker that waits for a board whose worker
-//! rests rings its bell. A board that was granted the bus while its worker rested connects and
-//! carries its data in these two turns, and keeps nobody waiting any longer.
-//! - **Pause.** A worker with a place that has waited in 64 turns in a row pauses for 50 microseconds, since the thread that
-//!   it waits for is not running.
+//! - **Place.** A worker that has made 240 events since its last rest gives its place to the next
+//!   board above its own whose worker rests, or else to the lowest. So the places go round all
+//!   boards. A worker whose board's script is at its end gives its place on in the same way, or
+//!   leaves it free if nobody rests, and a worker without a place takes a free one.
+//! - **Rest.** Any other worker without a place rests, on the bell of its board. A rest ends when
+//!   another worker rings the bell, or after ten milliseconds, so a race goes on even if nobody
+//!   rings.
+//! - **Visit.** After each rest a worker makes two turns, even without a place. A worker that waits
+//!   for a board whose worker rests rings its bell. A board that was granted the bus while its
+//!   worker rested connects and carries its data in these two turns, and keeps nobody waiting any
+//!   longer.
+//! - **Pause.** A worker with a place that has waited in 64 turns in a row pauses for 50
+//!   microseconds, since the thread that it waits for is not running.
 //!
 //! # What is not claimed
 //!

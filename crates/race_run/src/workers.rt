@@ -15,7 +15,8 @@ use std::sync::Wait;
 use std::thread;
 use std::thread::Threads;
 
-// A turn of a seat, with what its worker does after it. It answers whether the board's script is at its end.
+// A turn of a seat, with what its worker does after it. It answers whether the board's script is at
+// its end.
 fn is_done_after_turn<R: Wait>(
     rt: &R,
     shared: &Ruled<Racing>,
@@ -83,7 +84,8 @@ pub fn work<G: Gate, R: Wait>(
     ensures seen { GoesOn (seen seat.old) (seen seat.new) }
     ensures mine { GoesOn (mine seat.old) (mine seat.new) }
 
-    // The last turn found the script at its end, and each entry of what the seat has then seen is a step of its board.
+    // The last turn found the script at its end, and each entry of what the seat has then seen is a
+    // step of its board.
     ensures ended { OnOk result (IsDone shared.now seat.new) }
     ensures turned { OnOk result (turns seat.old < turns seat.new) }
 

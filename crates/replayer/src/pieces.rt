@@ -30,7 +30,10 @@ impl Model for Replay {
 
     ghost Value = { Replaying };
 
-    ghost view = { λ r. record { setup = r.machine.setup; place = place_of r.machine r.reader r.stage } };
+    ghost view = { λ r. record {
+      setup = r.machine.setup;
+      place = place_of r.machine r.reader r.stage;
+    } };
 }
 
 impl Replay {

@@ -26,12 +26,13 @@
 //! turn is five kinds of atomic step:
 //!
 //! 1. Draw: one is added to `ticket`. The seat has the ticket that stood there, and one turn more.
-//! 2. Look: `serving` is read. While it is another ticket, the seat waits and looks again. The look that finds its own
-//! ticket takes the slot, and from then on the value is the seat's alone: it is read out of the
-//! slot, steps, and is written back into the slot, which nobody else can reach.
-//! 3. Enter: one is added to `count` where the step made an entry, and nothing where it made none. With this step the
-//! entry is in the history. The seat has seen the whole history, and its own entries have grown by
-//! this one.
+//! 2. Look: `serving` is read. While it is another ticket, the seat waits and looks again. The look
+//!    that finds its own ticket takes the slot, and from then on the value is the seat's alone: it
+//!    is read out of the slot, steps, and is written back into the slot, which nobody else can
+//!    reach.
+//! 3. Enter: one is added to `count` where the step made an entry, and nothing where it made none.
+//!    With this step the entry is in the history. The seat has seen the whole history, and its own
+//!    entries have grown by this one.
 //! 4. Give: `serving` is read once more, and the slot goes back to the table.
 //! 5. Leave: one is added to `serving`, and the seat has no ticket.
 //!
@@ -62,14 +63,15 @@
 //! What a seat knows is its view. The rule is a fact about the words, the slot and all views, and
 //! it holds between any two steps of any threads:
 //!
-//! - `ticket` is `serving` plus the number of views with a ticket, and is the sum of all turns that were made.
+//! - `ticket` is `serving` plus the number of views with a ticket, and is the sum of all turns that
+//!   were made.
 //! - No two views have one ticket, and each ticket that is out lies from `serving` up to `ticket`.
-//! - The value is in the slot and has the history as its list, or it is out with the view whose ticket is `serving`,
-//!   which has seen the whole history.
-//! - `count` is the length of the history, and is at most the length of the start plus `serving`, or one more while
-//!   the ticket `serving` has entered.
-//! - The history goes on from the start by entries of seats, and goes on from what each seat has seen. Its entries of
-//!   the number n are those that seat n made.
+//! - The value is in the slot and has the history as its list, or it is out with the view whose
+//!   ticket is `serving`, which has seen the whole history.
+//! - `count` is the length of the history, and is at most the length of the start plus `serving`,
+//!   or one more while the ticket `serving` has entered.
+//! - The history goes on from the start by entries of seats, and goes on from what each seat has
+//!   seen. Its entries of the number n are those that seat n made.
 //! - No two views stand for one seat, and all together stand for all seats.
 //! - A seat has made at most 2^40 turns, so with 1,024 seats no word passes 2^51.
 //! - Each view that stands for a seat has the base that the value had when it was given.

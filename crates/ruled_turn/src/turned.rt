@@ -21,7 +21,8 @@ pub trait Turned {
     ghost admits: { Self.Base → ℕ → Type 0 };
 
     /// What a step of a number may answer, between the list before it and the list after it.
-    ghost replies: { Self.Base → List (ℕ × Self.Entry) → ℕ → Self.Answer → List (ℕ × Self.Entry) → Type 0 };
+    ghost replies: { Self.Base → List (ℕ × Self.Entry) → ℕ → Self.Answer
+        → List (ℕ × Self.Entry) → Type 0 };
 
     /// Adds one entry of `who`, or none.
     fn step(&mut self, who: u32) -> Self::Answer

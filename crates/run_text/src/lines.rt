@@ -1,7 +1,7 @@
 //! The lines of an ending.
 
 ghost use Rattle.std.specs.Prelude.{◌≡◌, ◌≤◌, ◌+◌, ◌++◌, ◌∷◌, [], length, map, decimal};
-ghost use Rattle.fb_text.specs.Written.{KeepsRoom, after_words};
+ghost use Rattle.fb_text.specs.Written.{KeepsRoom, Appends, after_words};
 ghost use Rattle.run_text.specs.Lines.{entry_line, memory_text, copy_text};
 
 use bus_signals::{Access, Addr, BoardNo, LineNo};
@@ -13,9 +13,7 @@ use moesi_state::State;
 /// A number after a space.
 fn number(text: &mut Text, value: u64)
     requires { 21 ≤ text.old.spare }
-    ensures bytes { text.new.bytes ≡ text.old.bytes ++ 32 ∷ decimal value }
-    ensures spare { text.old.spare ≤ text.new.spare + 21 }
-    ensures kept { KeepsRoom text.old text.new }
+    ensures appends { Appends text.old text.new (32 ∷ decimal value) 21 }
 {
     text.push(b" ");
     text.number(value);
@@ -24,9 +22,7 @@ fn number(text: &mut Text, value: u64)
 /// Four words, each after a space.
 fn four_words(text: &mut Text, words: [u32; 4])
     requires { 84 ≤ text.old.spare }
-    ensures bytes { text.new.bytes ≡ text.old.bytes ++ after_words (map decimal words) }
-    ensures spare { text.old.spare ≤ text.new.spare + 84 }
-    ensures kept { KeepsRoom text.old text.new }
+    ensures appends { Appends text.old text.new (after_words (map decimal words)) 84 }
 {
     number(text, u64::from(words[0]));
     number(text, u64::from(words[1]));

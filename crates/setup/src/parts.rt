@@ -24,9 +24,19 @@ impl Model for Setup {
 
     ghost Value = { Setup };
 
-    ghost view = { λ s. record { memory = s.memory.items; tables = s.tables.items; boards = s.boards.items; scripts = rows s.scripts.items } };
+    ghost view = { λ s. record {
+      memory = s.memory.items;
+      tables = s.tables.items;
+      boards = s.boards.items;
+      scripts = rows s.scripts.items;
+    } };
 
-    ghost invariant = { λ s. WellFormed (record { memory = s.memory.items; tables = s.tables.items; boards = s.boards.items; scripts = rows s.scripts.items }) };
+    ghost invariant = { λ s. WellFormed (record {
+      memory = s.memory.items;
+      tables = s.tables.items;
+      boards = s.boards.items;
+      scripts = rows s.scripts.items;
+    }) };
 }
 
 impl Setup {

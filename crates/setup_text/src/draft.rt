@@ -35,10 +35,25 @@ impl Model for Draft {
 
     ghost Value = { Setup };
 
-    ghost view = { λ d. record { memory = d.memory.items; tables = d.tables; boards = d.boards.items; scripts = rows d.scripts.items } };
+    ghost view = { λ d. record {
+      memory = d.memory.items;
+      tables = d.tables;
+      boards = d.boards.items;
+      scripts = rows d.scripts.items;
+    } };
 
-    ghost invariant = { λ d. IsDraft (record { memory = d.memory.items; tables = d.tables; boards = d.boards.items; scripts = rows d.scripts.items })
-        × (d.accesses ≡ access_count (record { memory = d.memory.items; tables = d.tables; boards = d.boards.items; scripts = rows d.scripts.items })) };
+    ghost invariant = { λ d. IsDraft (record {
+      memory = d.memory.items;
+      tables = d.tables;
+      boards = d.boards.items;
+      scripts = rows d.scripts.items;
+    })
+        × (d.accesses ≡ access_count (record {
+          memory = d.memory.items;
+          tables = d.tables;
+          boards = d.boards.items;
+          scripts = rows d.scripts.items;
+        })) };
 }
 
 /// Appends an access to the last script.

@@ -18,6 +18,7 @@ pub fn known_tables_are_judged()
     ensures write_through { InClass write_through }
     ensures whole_class { InClass whole_class }
     ensures hidden_copy { faults (with_quiet S Rd S) ≡ NotPermitted (Cell.Answer S Rd) 1 ∷ [] }
-    ensures impossible_answer { faults (with_quiet M Bwr I) ≡ NotPermitted (Cell.Answer M Bwr) 1 ∷ [] }
+    ensures impossible_answer { faults (with_quiet M Bwr I)
+        ≡ NotPermitted (Cell.Answer M Bwr) 1 ∷ [] }
     ensures without_owned { faults without_owned ≡ map Missing owned_cells }
 {}

@@ -324,12 +324,14 @@ pub fn read_table(alloc: Global, scan: &mut Scan, name: Name) -> Result<Table, T
     ensures spelled { IfOk result (λ t. IsTable name scan.old t scan.new) }
     // A table that the text spells is read, whatever follows it.
     ensures only { (cells : List CellLine) (rest : List Item) → AllStand (empty_table name) cells
-        → items (places scan.old) ≡ table_items cells ++ rest → IsReadAs result (table_of name cells) }
+        → items (places scan.old) ≡ table_items cells ++ rest
+        → IsReadAs result (table_of name cells) }
     // A table that was written is read back, whatever follows it.
     ensures written { (t : Table) (rest : List ℕ) → IsWhole t → name ≡ t.name
         → scan.old ≡ after_head (written_table t ++ rest) → IsReadAs result t }
     // The same holds after other lines, and what follows the table is then still to be read.
-    ensures goes_on { (t : Table) (line end : ℕ) (rest : List ℕ) → IsWhole t → name ≡ t.name → scan.old ≡ behind_head line end t rest
+    ensures goes_on { (t : Table) (line end : ℕ) (rest : List ℕ) → IsWhole t → name ≡ t.name
+        → scan.old ≡ behind_head line end t rest
         → IsReadAs result t × OnOk result (scan.new ≡ behind_table line end t rest) }
     // A fault has the line and the kind of the first place at fault.
     ensures first { IfErr result (λ e. IsFirstFault e (places scan.old)) }

@@ -2,7 +2,7 @@
 
 ghost use Rattle.std.specs.Prelude.{◌≡◌, ◌≤◌, ◌<◌, ◌+◌, ◌*◌, ◌^◌, ◌++◌, length};
 ghost use Rattle.std.specs.List.{flat_map};
-ghost use Rattle.fb_text.specs.Written.{KeepsRoom};
+ghost use Rattle.fb_text.specs.Written.{KeepsRoom, Appends};
 ghost use Rattle.bus_model.specs.Entries.{entries};
 ghost use Rattle.tally.specs.Tally.{tally_line, counts_line, tally_text};
 
@@ -18,9 +18,7 @@ const ACCESSES: u64 = 100_000;
 fn line(text: &mut Text, word: &str, value: u64)
     requires room { 32 ≤ text.old.spare }
     requires short { length word.now ≤ 8 }
-    ensures bytes { text.new.bytes ≡ text.old.bytes ++ tally_line word.now value }
-    ensures spare { text.old.spare ≤ text.new.spare + 32 }
-    ensures kept { KeepsRoom text.old text.new }
+    ensures appends { Appends text.old text.new (tally_line word.now value) 32 }
 {
     text.push(word.as_bytes());
     text.push(b" ");
@@ -31,10 +29,8 @@ fn line(text: &mut Text, word: &str, value: u64)
 /// The lines of bus events, by the counts of all.
 fn event_lines(text: &mut Text, counts: &[u64; EVENT_COUNT], events: &[BusEvent])
     requires { 32 * length events.now ≤ text.old.spare }
-    ensures bytes { text.new.bytes
-        ≡ text.old.bytes ++ flat_map (counts_line counts.now) events.now }
-    ensures spare { text.old.spare ≤ text.new.spare + 32 * length events.now }
-    ensures kept { KeepsRoom text.old text.new }
+    ensures appends { Appends text.old text.new
+        (flat_map (counts_line counts.now) events.now) (32 * length events.now) }
 {
     for event in events {
         line(text, bus_event_text(*event), counts[event_number(*event)]);

@@ -327,7 +327,8 @@ fn event(line: &mut Pieces) -> Option<Event>
 
 /// Reads the line of an event, without its line feed.
 pub fn read_event(line: &[u8]) -> Option<Event>
-    // What is read is the event in range whose line this is, and nothing is read exactly where there is none.
+    // What is read is the event in range whose line this is, and nothing is read exactly where
+    // there is none.
     ensures spelled { IfSome result (λ e. InRange e × (line.now ≡ text_of_event e)) }
     ensures only { (e : Event) → InRange e → line.now ≡ text_of_event e → result ≡ Some e }
     ensures none { IfNone result ((e : Event) → InRange e → line.now ≢ text_of_event e) }

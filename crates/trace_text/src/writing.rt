@@ -3,7 +3,7 @@
 ghost use Rattle.std.specs.Prelude.{◌≡◌, ◌≤◌, ◌<◌, ◌+◌, ◌*◌, [], ◌++◌, ◌∷◌, ℕ, List, length, map, decimal, codes};
 ghost use Rattle.std.specs.List.{AllByRecursion};
 ghost use Rattle.bus_signals.specs.Accesses.{address_of};
-ghost use Rattle.fb_text.specs.Written.{KeepsRoom};
+ghost use Rattle.fb_text.specs.Written.{KeepsRoom, Appends};
 ghost use Rattle.class_words.specs.Words.{state_word, bus_event_word, outcome_word};
 ghost use Rattle.journal.specs.declared.answers.Answer.{Answer};
 ghost use Rattle.journal.specs.declared.event.Event.{Event};
@@ -22,9 +22,7 @@ use moesi_state::{Outcome, State};
 /// A word after a space.
 fn word(text: &mut Text, word: &str)
     requires { length word.now < text.old.spare }
-    ensures bytes { text.new.bytes ≡ text.old.bytes ++ 32 ∷ word.now }
-    ensures spare { text.old.spare ≤ text.new.spare + length word.now + 1 }
-    ensures kept { KeepsRoom text.old text.new }
+    ensures appends { Appends text.old text.new (32 ∷ word.now) (length word.now + 1) }
 {
     text.push(b" ");
     text.push(word.as_bytes());
@@ -32,9 +30,7 @@ fn word(text: &mut Text, word: &str)
 
 fn digits(text: &mut Text, value: u64)
     requires { length (decimal value) ≤ text.old.spare }
-    ensures bytes { text.new.bytes ≡ text.old.bytes ++ decimal value }
-    ensures spare { text.old.spare ≤ text.new.spare + length (decimal value) }
-    ensures kept { KeepsRoom text.old text.new }
+    ensures appends { Appends text.old text.new (decimal value) (length (decimal value)) }
 {
     let mut buffer = Buffer::new();
     text.push(buffer.format(value).as_bytes());
@@ -43,9 +39,7 @@ fn digits(text: &mut Text, value: u64)
 /// A number after a space.
 fn number(text: &mut Text, value: u64)
     requires { length (decimal value) < text.old.spare }
-    ensures bytes { text.new.bytes ≡ text.old.bytes ++ 32 ∷ decimal value }
-    ensures spare { text.old.spare ≤ text.new.spare + length (decimal value) + 1 }
-    ensures kept { KeepsRoom text.old text.new }
+    ensures appends { Appends text.old text.new (32 ∷ decimal value) (length (decimal value) + 1) }
 {
     text.push(b" ");
     digits(text, value);
@@ -55,9 +49,7 @@ fn number(text: &mut Text, value: u64)
 fn board(text: &mut Text, board: BoardNo)
     requires board { IsBoard board }
     requires room { 3 ≤ text.old.spare }
-    ensures bytes { text.new.bytes ≡ text.old.bytes ++ 32 ∷ decimal board }
-    ensures spare { text.old.spare ≤ text.new.spare + 3 }
-    ensures kept { KeepsRoom text.old text.new }
+    ensures appends { Appends text.old text.new (32 ∷ decimal board) 3 }
 {
     number(text, u64::from(board.0));
 }
@@ -66,9 +58,7 @@ fn board(text: &mut Text, board: BoardNo)
 fn line_number(text: &mut Text, line: LineNo)
     requires line { IsLine line }
     requires room { 5 ≤ text.old.spare }
-    ensures bytes { text.new.bytes ≡ text.old.bytes ++ 32 ∷ decimal line }
-    ensures spare { text.old.spare ≤ text.new.spare + 5 }
-    ensures kept { KeepsRoom text.old text.new }
+    ensures appends { Appends text.old text.new (32 ∷ decimal line) 5 }
 {
     number(text, u64::from(line.0));
 }
@@ -77,9 +67,7 @@ fn line_number(text: &mut Text, line: LineNo)
 fn address(text: &mut Text, addr: Addr)
     requires address { IsAddress addr }
     requires room { 6 ≤ text.old.spare }
-    ensures bytes { text.new.bytes ≡ text.old.bytes ++ 32 ∷ decimal addr }
-    ensures spare { text.old.spare ≤ text.new.spare + 6 }
-    ensures kept { KeepsRoom text.old text.new }
+    ensures appends { Appends text.old text.new (32 ∷ decimal addr) 6 }
 {
     number(text, u64::from(addr.0));
 }
@@ -87,36 +75,28 @@ fn address(text: &mut Text, addr: Addr)
 #[tactic(auto, using(crate::proofs::Lengths::value_short))]
 fn value(text: &mut Text, value: u32)
     requires { 11 ≤ text.old.spare }
-    ensures bytes { text.new.bytes ≡ text.old.bytes ++ 32 ∷ decimal value }
-    ensures spare { text.old.spare ≤ text.new.spare + 11 }
-    ensures kept { KeepsRoom text.old text.new }
+    ensures appends { Appends text.old text.new (32 ∷ decimal value) 11 }
 {
     number(text, u64::from(value));
 }
 
 fn state(text: &mut Text, state: State)
     requires { 2 ≤ text.old.spare }
-    ensures bytes { text.new.bytes ≡ text.old.bytes ++ 32 ∷ state_word state }
-    ensures spare { text.old.spare ≤ text.new.spare + 2 }
-    ensures kept { KeepsRoom text.old text.new }
+    ensures appends { Appends text.old text.new (32 ∷ state_word state) 2 }
 {
     word(text, state_text(state));
 }
 
 fn bus_event(text: &mut Text, event: BusEvent)
     requires { 4 ≤ text.old.spare }
-    ensures bytes { text.new.bytes ≡ text.old.bytes ++ 32 ∷ bus_event_word event }
-    ensures spare { text.old.spare ≤ text.new.spare + 4 }
-    ensures kept { KeepsRoom text.old text.new }
+    ensures appends { Appends text.old text.new (32 ∷ bus_event_word event) 4 }
 {
     word(text, bus_event_text(event));
 }
 
 fn outcome(text: &mut Text, outcome: Outcome)
     requires { 7 ≤ text.old.spare }
-    ensures bytes { text.new.bytes ≡ text.old.bytes ++ 32 ∷ outcome_word outcome }
-    ensures spare { text.old.spare ≤ text.new.spare + 7 }
-    ensures kept { KeepsRoom text.old text.new }
+    ensures appends { Appends text.old text.new (32 ∷ outcome_word outcome) 7 }
 {
     match outcome {
         Outcome::Fixed(state) => word(text, state_text(state)),
@@ -133,9 +113,7 @@ fn outcome(text: &mut Text, outcome: Outcome)
 fn placed(text: &mut Text, place: &(BoardNo, State))
     requires board { IsBoard place.now.0 }
     requires room { 5 ≤ text.old.spare }
-    ensures bytes { text.new.bytes ≡ text.old.bytes ++ 32 ∷ placed_word place.now }
-    ensures spare { text.old.spare ≤ text.new.spare + 5 }
-    ensures kept { KeepsRoom text.old text.new }
+    ensures appends { Appends text.old text.new (32 ∷ placed_word place.now) 5 }
 {
     board(text, place.0);
     text.push(b"=");
@@ -145,9 +123,8 @@ fn placed(text: &mut Text, place: &(BoardNo, State))
 fn states(text: &mut Text, states: &[(BoardNo, State)])
     requires boards { AllByRecursion (λ (p : ℕ × State). IsBoard p.0) states.now }
     requires room { 5 * length states.now ≤ text.old.spare }
-    ensures bytes { text.new.bytes ≡ text.old.bytes ++ each_behind 32 (map placed_word states.now) }
-    ensures spare { text.old.spare ≤ text.new.spare + 5 * length states.now }
-    ensures kept { KeepsRoom text.old text.new }
+    ensures appends { Appends text.old text.new
+        (each_behind 32 (map placed_word states.now)) (5 * length states.now) }
 {
     for place in states {
         placed(text, place);
@@ -157,9 +134,7 @@ fn states(text: &mut Text, states: &[(BoardNo, State)])
 fn signal(text: &mut Text, asserted: bool, name: &str)
     requires room { 3 ≤ text.old.spare }
     requires short { length name.now ≡ 3 }
-    ensures bytes { text.new.bytes ≡ text.old.bytes ++ mark asserted name.now }
-    ensures spare { text.old.spare ≤ text.new.spare + 3 }
-    ensures kept { KeepsRoom text.old text.new }
+    ensures appends { Appends text.old text.new (mark asserted name.now) 3 }
 {
     if asserted {
         text.push(name.as_bytes());
@@ -170,9 +145,7 @@ fn signal(text: &mut Text, asserted: bool, name: &str)
 fn answer(text: &mut Text, answer: &Answer)
     requires board { IsBoard answer.now.board }
     requires room { 14 ≤ text.old.spare }
-    ensures bytes { text.new.bytes ≡ text.old.bytes ++ 32 ∷ answer_word answer.now }
-    ensures spare { text.old.spare ≤ text.new.spare + 14 }
-    ensures kept { KeepsRoom text.old text.new }
+    ensures appends { Appends text.old text.new (32 ∷ answer_word answer.now) 14 }
 {
     board(text, answer.board);
     text.push(b"=");
@@ -185,10 +158,8 @@ fn answer(text: &mut Text, answer: &Answer)
 fn each_answer(text: &mut Text, answers: &[Answer])
     requires boards { AllByRecursion (λ (a : Answer). IsBoard a.board) answers.now }
     requires room { 14 * length answers.now ≤ text.old.spare }
-    ensures bytes { text.new.bytes
-        ≡ text.old.bytes ++ each_behind 32 (map answer_word answers.now) }
-    ensures spare { text.old.spare ≤ text.new.spare + 14 * length answers.now }
-    ensures kept { KeepsRoom text.old text.new }
+    ensures appends { Appends text.old text.new
+        (each_behind 32 (map answer_word answers.now)) (14 * length answers.now) }
 {
     for one in answers {
         answer(text, one);
@@ -199,9 +170,7 @@ fn each_answer(text: &mut Text, answers: &[Answer])
 fn answers(text: &mut Text, answers: &[Answer])
     requires answers { AreAnswers answers.now }
     requires room { 210 ≤ text.old.spare }
-    ensures bytes { text.new.bytes ≡ text.old.bytes ++ each_behind 32 (answers_words answers.now) }
-    ensures spare { text.old.spare ≤ text.new.spare + 210 }
-    ensures kept { KeepsRoom text.old text.new }
+    ensures appends { Appends text.old text.new (each_behind 32 (answers_words answers.now)) 210 }
 {
     if answers.is_empty() {
         word(text, "none");
@@ -213,9 +182,7 @@ fn answers(text: &mut Text, answers: &[Answer])
 fn source(text: &mut Text, source: Source)
     requires source { IsSource source }
     requires room { 7 ≤ text.old.spare }
-    ensures bytes { text.new.bytes ≡ text.old.bytes ++ 32 ∷ source_word source }
-    ensures spare { text.old.spare ≤ text.new.spare + 7 }
-    ensures kept { KeepsRoom text.old text.new }
+    ensures appends { Appends text.old text.new (32 ∷ source_word source) 7 }
 {
     match source {
         Source::Nobody => word(text, "none"),
@@ -229,9 +196,7 @@ fn source(text: &mut Text, source: Source)
 fn boards(text: &mut Text, lead: u8, boards: &[BoardNo])
     requires boards { AllByRecursion IsBoard boards.now }
     requires room { 3 * length boards.now ≤ text.old.spare }
-    ensures bytes { text.new.bytes ≡ text.old.bytes ++ led lead boards.now }
-    ensures spare { text.old.spare ≤ text.new.spare + 3 * length boards.now }
-    ensures kept { KeepsRoom text.old text.new }
+    ensures appends { Appends text.old text.new (led lead boards.now) (3 * length boards.now) }
 {
     let mut lead = lead;
     for board in boards {
@@ -244,9 +209,7 @@ fn boards(text: &mut Text, lead: u8, boards: &[BoardNo])
 fn led_board(text: &mut Text, lead: u8, board: BoardNo)
     requires board { IsBoard board }
     requires room { 3 ≤ text.old.spare }
-    ensures bytes { text.new.bytes ≡ text.old.bytes ++ lead ∷ decimal board }
-    ensures spare { text.old.spare ≤ text.new.spare + 3 }
-    ensures kept { KeepsRoom text.old text.new }
+    ensures appends { Appends text.old text.new (lead ∷ decimal board) 3 }
 {
     text.push(&[lead]);
     digits(text, u64::from(board.0));
@@ -256,10 +219,8 @@ fn led_board(text: &mut Text, lead: u8, board: BoardNo)
 fn takers(text: &mut Text, takers: &Takers)
     requires places { ArePlaces takers.now.boards }
     requires room { 55 ≤ text.old.spare }
-    ensures bytes { text.new.bytes
-        ≡ text.old.bytes ++ 32 ∷ takers_text (taker_parts takers.now.memory takers.now.boards) }
-    ensures spare { text.old.spare ≤ text.new.spare + 55 }
-    ensures kept { KeepsRoom text.old text.new }
+    ensures appends { Appends text.old text.new
+        (32 ∷ takers_text (taker_parts takers.now.memory takers.now.boards)) 55 }
 {
     let places = takers.boards.items();
     if takers.memory {
@@ -276,9 +237,7 @@ fn takers(text: &mut Text, takers: &Takers)
 fn access(text: &mut Text, access: &Access)
     requires address { IsAddress (address_of access.now) }
     requires room { 23 ≤ text.old.spare }
-    ensures bytes { text.new.bytes ≡ text.old.bytes ++ each_behind 32 (access_words access.now) }
-    ensures spare { text.old.spare ≤ text.new.spare + 23 }
-    ensures kept { KeepsRoom text.old text.new }
+    ensures appends { Appends text.old text.new (each_behind 32 (access_words access.now)) 23 }
 {
     match access {
         Access::Read(addr) => {
@@ -304,9 +263,7 @@ fn access(text: &mut Text, access: &Access)
 /// The word that was read.
 fn reply(text: &mut Text, reply: Option<u32>)
     requires { 13 ≤ text.old.spare }
-    ensures bytes { text.new.bytes ≡ text.old.bytes ++ each_behind 32 (reply_words reply) }
-    ensures spare { text.old.spare ≤ text.new.spare + 13 }
-    ensures kept { KeepsRoom text.old text.new }
+    ensures appends { Appends text.old text.new (each_behind 32 (reply_words reply)) 13 }
 {
     match reply {
         Some(found) => {
@@ -320,9 +277,7 @@ fn reply(text: &mut Text, reply: Option<u32>)
 fn done(text: &mut Text, done: &Done)
     requires done { IsDone done.now }
     requires room { 36 ≤ text.old.spare }
-    ensures bytes { text.new.bytes ≡ text.old.bytes ++ each_behind 32 (done_words done.now) }
-    ensures spare { text.old.spare ≤ text.new.spare + 36 }
-    ensures kept { KeepsRoom text.old text.new }
+    ensures appends { Appends text.old text.new (each_behind 32 (done_words done.now)) 36 }
 {
     access(text, &done.access);
     reply(text, done.reply);
@@ -332,9 +287,7 @@ fn done(text: &mut Text, done: &Done)
 fn carried(text: &mut Text, carried: &Option<Done>)
     requires carried { IsCarried carried.now }
     requires room { 36 ≤ text.old.spare }
-    ensures bytes { text.new.bytes ≡ text.old.bytes ++ each_behind 32 (carried_words carried.now) }
-    ensures spare { text.old.spare ≤ text.new.spare + 36 }
-    ensures kept { KeepsRoom text.old text.new }
+    ensures appends { Appends text.old text.new (each_behind 32 (carried_words carried.now)) 36 }
 {
     match carried {
         Some(all) => done(text, all),
@@ -346,10 +299,8 @@ fn local(text: &mut Text, place: BoardNo, before: State, after: State, all: &Don
     requires board { IsBoard place }
     requires done { IsDone all.now }
     requires room { 252 ≤ text.old.spare }
-    ensures bytes { text.new.bytes
-        ≡ text.old.bytes ++ spaced (event_words (Event.Local place before after all.now)) }
-    ensures spare { text.old.spare ≤ text.new.spare + 252 }
-    ensures kept { KeepsRoom text.old text.new }
+    ensures appends { Appends text.old text.new
+        (spaced (event_words (Event.Local place before after all.now))) 252 }
 {
     text.push(b"local");
     board(text, place);
@@ -364,10 +315,8 @@ fn dropped(text: &mut Text, place: BoardNo, line: LineNo, before: State)
     requires board { IsBoard place }
     requires line { IsLine line }
     requires room { 252 ≤ text.old.spare }
-    ensures bytes { text.new.bytes
-        ≡ text.old.bytes ++ spaced (event_words (Event.Drop place line before)) }
-    ensures spare { text.old.spare ≤ text.new.spare + 252 }
-    ensures kept { KeepsRoom text.old text.new }
+    ensures appends { Appends text.old text.new
+        (spaced (event_words (Event.Drop place line before))) 252 }
 {
     text.push(b"drop");
     board(text, place);
@@ -380,9 +329,7 @@ fn dropped(text: &mut Text, place: BoardNo, line: LineNo, before: State)
 fn raise(text: &mut Text, place: BoardNo)
     requires board { IsBoard place }
     requires room { 252 ≤ text.old.spare }
-    ensures bytes { text.new.bytes ≡ text.old.bytes ++ spaced (event_words (Event.Raise place)) }
-    ensures spare { text.old.spare ≤ text.new.spare + 252 }
-    ensures kept { KeepsRoom text.old text.new }
+    ensures appends { Appends text.old text.new (spaced (event_words (Event.Raise place))) 252 }
 {
     text.push(b"raise");
     board(text, place);
@@ -392,9 +339,7 @@ fn raise(text: &mut Text, place: BoardNo)
 fn settled(text: &mut Text, lines: u16)
     requires lines { lines ≤ 255 }
     requires room { 4 ≤ text.old.spare }
-    ensures bytes { text.new.bytes ≡ text.old.bytes ++ 32 ∷ decimal lines }
-    ensures spare { text.old.spare ≤ text.new.spare + 4 }
-    ensures kept { KeepsRoom text.old text.new }
+    ensures appends { Appends text.old text.new (32 ∷ decimal lines) 4 }
 {
     number(text, u64::from(lines));
 }
@@ -403,9 +348,7 @@ fn settled(text: &mut Text, lines: u16)
 fn round_count(text: &mut Text, rounds: u8)
     requires rounds { rounds ≤ 7 }
     requires room { 2 ≤ text.old.spare }
-    ensures bytes { text.new.bytes ≡ text.old.bytes ++ 32 ∷ decimal rounds }
-    ensures spare { text.old.spare ≤ text.new.spare + 2 }
-    ensures kept { KeepsRoom text.old text.new }
+    ensures appends { Appends text.old text.new (32 ∷ decimal rounds) 2 }
 {
     number(text, u64::from(rounds));
 }
@@ -415,10 +358,8 @@ fn grant(text: &mut Text, by: BoardNo, winner: BoardNo, lines: u16, rounds: u8)
     requires lines { lines ≤ 255 }
     requires rounds { rounds ≤ 7 }
     requires room { 252 ≤ text.old.spare }
-    ensures bytes { text.new.bytes
-        ≡ text.old.bytes ++ spaced (event_words (Event.Grant by winner lines rounds)) }
-    ensures spare { text.old.spare ≤ text.new.spare + 252 }
-    ensures kept { KeepsRoom text.old text.new }
+    ensures appends { Appends text.old text.new
+        (spaced (event_words (Event.Grant by winner lines rounds))) 252 }
 {
     text.push(b"grant");
     board(text, by);
@@ -436,13 +377,10 @@ fn heading(text: &mut Text, name: &str, master: BoardNo, event: BusEvent, line: 
     requires line { IsLine line }
     requires short { length name.now ≤ 7 }
     requires room { 24 ≤ text.old.spare }
-    ensures bytes { text.new.bytes
-        ≡ text.old.bytes
-        ++ (name.now
+    ensures appends { Appends text.old text.new
+        ((name.now
         ++ each_behind 32
-        (decimal master ∷ bus_event_word event ∷ codes "line" ∷ decimal line ∷ [])) }
-    ensures spare { text.old.spare ≤ text.new.spare + 24 }
-    ensures kept { KeepsRoom text.old text.new }
+        (decimal master ∷ bus_event_word event ∷ codes "line" ∷ decimal line ∷ []))) 24 }
 {
     text.push(name.as_bytes());
     board(text, master);
@@ -454,10 +392,8 @@ fn heading(text: &mut Text, name: &str, master: BoardNo, event: BusEvent, line: 
 fn connect(text: &mut Text, connected: &Connected)
     requires in_range { InRange (Event.Connect connected.now) }
     requires room { 252 ≤ text.old.spare }
-    ensures bytes { text.new.bytes
-        ≡ text.old.bytes ++ spaced (event_words (Event.Connect connected.now)) }
-    ensures spare { text.old.spare ≤ text.new.spare + 252 }
-    ensures kept { KeepsRoom text.old text.new }
+    ensures appends { Appends text.old text.new
+        (spaced (event_words (Event.Connect connected.now))) 252 }
 {
     heading(
         text,
@@ -475,10 +411,8 @@ fn connect(text: &mut Text, connected: &Connected)
 fn data(text: &mut Text, all: &Carried)
     requires in_range { InRange (Event.DataPhase all.now) }
     requires room { 252 ≤ text.old.spare }
-    ensures bytes { text.new.bytes
-        ≡ text.old.bytes ++ spaced (event_words (Event.DataPhase all.now)) }
-    ensures spare { text.old.spare ≤ text.new.spare + 252 }
-    ensures kept { KeepsRoom text.old text.new }
+    ensures appends { Appends text.old text.new
+        (spaced (event_words (Event.DataPhase all.now))) 252 }
 {
     heading(text, "data", all.master, all.event, all.line);
     moved(text, all);
@@ -490,12 +424,9 @@ fn moved(text: &mut Text, all: &Carried)
     requires source { IsSource all.now.source }
     requires places { ArePlaces all.now.takers.boards }
     requires room { 72 ≤ text.old.spare }
-    ensures bytes { text.new.bytes
-        ≡ text.old.bytes
-        ++ each_behind 32 (codes "from" ∷ source_word all.now.source ∷ codes "into"
-        ∷ takers_text (taker_parts all.now.takers.memory all.now.takers.boards) ∷ []) }
-    ensures spare { text.old.spare ≤ text.new.spare + 72 }
-    ensures kept { KeepsRoom text.old text.new }
+    ensures appends { Appends text.old text.new
+        (each_behind 32 (codes "from" ∷ source_word all.now.source ∷ codes "into"
+        ∷ takers_text (taker_parts all.now.takers.memory all.now.takers.boards) ∷ [])) 72 }
 {
     word(text, "from");
     source(text, all.source);
@@ -509,12 +440,9 @@ fn ended(text: &mut Text, all: &Carried)
     requires states { AreStates all.now.master all.now.states }
     requires carried { IsCarried all.now.done }
     requires room { 128 ≤ text.old.spare }
-    ensures bytes { text.new.bytes
-        ≡ text.old.bytes
-        ++ each_behind 32 (codes "states"
-        ∷ (map placed_word all.now.states ++ codes "done" ∷ carried_words all.now.done)) }
-    ensures spare { text.old.spare ≤ text.new.spare + 128 }
-    ensures kept { KeepsRoom text.old text.new }
+    ensures appends { Appends text.old text.new
+        (each_behind 32 (codes "states"
+        ∷ (map placed_word all.now.states ++ codes "done" ∷ carried_words all.now.done))) 128 }
 {
     word(text, "states");
     states(text, all.states.items());
@@ -525,9 +453,7 @@ fn ended(text: &mut Text, all: &Carried)
 fn event_text(text: &mut Text, event: &Event)
     requires in_range { InRange event.now }
     requires room { 252 ≤ text.old.spare }
-    ensures bytes { text.new.bytes ≡ text.old.bytes ++ spaced (event_words event.now) }
-    ensures spare { text.old.spare ≤ text.new.spare + 252 }
-    ensures kept { KeepsRoom text.old text.new }
+    ensures appends { Appends text.old text.new (spaced (event_words event.now)) 252 }
 {
     match event {
         Event::Local {

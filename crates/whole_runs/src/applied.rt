@@ -19,8 +19,8 @@ fn is_refused(machine: &mut Machine, event: &Event) -> bool {
     machine.apply(event) == Err(NotARun) && machine.journal().len() == before
 }
 
-/// Whether a line goes as it should: the event of a line that begins with `!` is no step and is refused, and that of any
-/// other line is applied.
+/// Whether a line goes as it should: the event of a line that begins with `!` is no step and is
+/// refused, and that of any other line is applied.
 fn is_right(machine: &mut Machine, line: &str) -> bool {
     let (spelling, is_step) = match line.strip_prefix("! ") {
         Some(other) => (other, false),
@@ -38,8 +38,8 @@ fn is_right(machine: &mut Machine, line: &str) -> bool {
     }
 }
 
-/// Takes these lines in order, from the opening of a setup to the end of its run. The first line that does not go as it
-/// should is the failure.
+/// Takes these lines in order, from the opening of a setup to the end of its run. The first line
+/// that does not go as it should is the failure.
 fn play(alloc: Global, memory: &str, boards: &str, lines: &str) -> Result<(), Fail> {
     let mut machine = machine(alloc, memory, boards)?;
     for line in lines.lines() {

@@ -97,7 +97,8 @@ fn race_runs_its_workers_beside_each_other(rt: HostRuntime) -> Result<(), Fail> 
     Ok(())
 }
 
-// Turns of the caller's thread, or rounds, would let board 2 raise a request before board 1 has had the bus.
+// Turns of the caller's thread, or rounds, would let board 2 raise a request before board 1 has had
+// the bus.
 #[test]
 fn race_goes_by_the_turns_of_its_workers(rt: HostRuntime) -> Result<(), Fail> {
     let alloc = rt.alloc();

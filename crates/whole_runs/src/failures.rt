@@ -1,4 +1,5 @@
-//! Commands over files and an output of which one call fails: each call in turn, until the command makes no such call.
+//! Commands over files and an output of which one call fails: each call in turn, until the command
+//! makes no such call.
 
 use crate::commands::{file, words};
 use crate::machines::writer_and_reader_text;

@@ -98,7 +98,8 @@ impl Gate for Meeting {
     }
 }
 
-/// Holds the first turn of each board but the first until the first board has come to its fifth turn.
+/// Holds the first turn of each board but the first until the first board has come to its fifth
+/// turn.
 #[derive(Drop)]
 pub struct HeadStart {
     pub calls: Calls,

@@ -1,5 +1,6 @@
-//! Whole runs of small setups, as tests: each event of a run is applied, and events that are no step are refused. Boards
-//! take turns. Traces are replayed. Boards race. Each read and each write of a command fails in turn.
+//! Whole runs of small setups, as tests: each event of a run is applied, and events that are no
+//! step are refused. Boards take turns. Traces are replayed. Boards race. Each read and each write
+//! of a command fails in turn.
 #![tactic(auto)]
 
 #[cfg(test)]

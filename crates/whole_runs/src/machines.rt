@@ -8,8 +8,8 @@ use setup_text::{Setup, read_setup};
 use std::alloc::Global;
 use std::test::Fail;
 
-/// Tables for a cached board that invalidates other copies before it writes, one that broadcasts what it writes, one that
-/// writes through, and one without a cache.
+/// Tables for a cached board that invalidates other copies before it writes, one that broadcasts
+/// what it writes, one that writes through, and one without a cache.
 const TABLES: &str =
     "table cb\nM read = M\nM write = M\nM pass = E pas\nM flush = I flu\nM rd = O CH DI\n\
      M rfo = I DI\nM urd = M DI\nM uwr = M DI\nM ubw = M SL\nO read = O\nO write = M inv\n\
@@ -90,8 +90,8 @@ pub fn writer_and_reader_text(alloc: Global) -> Result<String, Fail> {
     text(alloc, WORD_5, WRITER_AND_READER)
 }
 
-/// An uncached board, one that writes through and two that copy back, on one line. Each writes a counter of its own twice,
-/// and reads all four.
+/// An uncached board, one that writes through and two that copy back, on one line. Each writes a
+/// counter of its own twice, and reads all four.
 const COUNTERS: &str = "board 1 number 5 table un plain choose first\n\
     read 0\nwrite 0 1\nread 1\nread 2\nread 3\nwrite 0 2\nread 0\n\
     board 2 number 9 table wt cached 1 1 choose first\n\

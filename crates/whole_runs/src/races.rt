@@ -149,7 +149,8 @@ fn printed(alloc: Global, machine: &Machine) -> Result<MemSink, Fail> {
     }
 }
 
-/// Whether the text that a machine's run prints is replayed from the opening of its setup, and prints the same then.
+/// Whether the text that a machine's run prints is replayed from the opening of its setup, and
+/// prints the same then.
 fn is_replayed(alloc: Global, opening: Machine, machine: &Machine) -> Result<bool, Fail>
     requires { opening.journal ≡ [] }
 {
@@ -194,7 +195,8 @@ pub fn came_more_often(events: &[Event], calls: &Calls) -> bool {
     true
 }
 
-/// Whether the machine is finished, and the last read of each of its four boards gave the board's own last write.
+/// Whether the machine is finished, and the last read of each of its four boards gave the board's
+/// own last write.
 fn is_whole(machine: &Machine) -> bool {
     for place in 1..5u8 {
         if last_reply(machine, place) != Some(2) {
@@ -236,7 +238,8 @@ fn a_race_runs_its_workers_beside_each_other(rt: HostRuntime) -> Result<(), Fail
     Ok(())
 }
 
-// Turns of the caller's thread, or rounds, would let board 2 raise a request before board 1 has had the bus.
+// Turns of the caller's thread, or rounds, would let board 2 raise a request before board 1 has had
+// the bus.
 #[test]
 fn a_race_goes_by_the_turns_of_its_workers(rt: HostRuntime) -> Result<(), Fail> {
     let alloc = rt.alloc();

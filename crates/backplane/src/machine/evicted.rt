@@ -87,7 +87,8 @@ fn two_writes(alloc: Global) -> Result<Setup, Fail> {
     Ok(Setup::of(memory, tables, boards, scripts))
 }
 
-// The second write takes eight events: the line that was written before has to go first, by a flush.
+// The second write takes eight events: the line that was written before has to go first, by a
+// flush.
 #[test]
 fn the_only_frame_is_out_after_an_eviction(rt: HostRuntime) -> Result<(), Fail> {
     let Ok(mut machine) = assemble(rt.alloc(), two_writes(rt.alloc())?) else {

@@ -58,8 +58,9 @@ impl Machine {
         let _pool = self.parts.rack.pool();
     }
 
-    /// The words of the only frame that a machine has, where a board has a copy: the frame is out then,
-    /// and none is free. No caller of the machine sees frames; this is for the test of the pool.
+    /// The words of the only frame that a machine has, where a board has a copy: the frame is out
+    /// then, and none is free. No caller of the machine sees frames; this is for the test of the
+    /// pool.
     pub(crate) fn only_frame(&self, board: BoardNo, line: LineNo) -> Option<[u32; 4]>
         requires { IsBoard self.now board }
     {

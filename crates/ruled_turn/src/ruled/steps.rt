@@ -12,16 +12,16 @@ use std::hint;
 use std::sync::Wait;
 use std::time::Duration;
 
-// A seat looks so often before it sleeps. That is longer than it takes to wake a thread, or else two seats that take
-// turns could put each other to sleep again and again.
+// A seat looks so often before it sleeps. That is longer than it takes to wake a thread, or else
+// two seats that take turns could put each other to sleep again and again.
 const MOST_LOOKS: u32 = 5_000;
 
 // A seat that sleeps looks again after so many milliseconds even if nobody wakes it.
 const LONGEST_SLEEP: u64 = 10;
 
 impl<M: Turned> Ruled<M> {
-    // Waits after a look that found another ticket served, and says how many looks were made since the last sleep. It
-    // sleeps only while that ticket is still served.
+    // Waits after a look that found another ticket served, and says how many looks were made since
+    // the last sleep. It sleeps only while that ticket is still served.
     fn wait<R: Wait>(&self, rt: &R, serving: u64, looks: u32) -> u32 {
         if looks < MOST_LOOKS {
             hint::spin_loop();
@@ -32,8 +32,8 @@ impl<M: Turned> Ruled<M> {
         0
     }
 
-    // Wakes the seats that sleep, after this ticket has left. If no later ticket has been drawn by now, whoever draws the
-    // next one sees that this one has left.
+    // Wakes the seats that sleep, after this ticket has left. If no later ticket has been drawn by
+    // now, whoever draws the next one sees that this one has left.
     fn wake(&self, ticket: u64) {
         let desk = &self.table.shared;
         if desk.peek(TICKET).wrapping_sub(ticket) > 1 {
@@ -64,7 +64,8 @@ impl<M: Turned> Ruled<M> {
         unreachable!()
     }
 
-    // Draws a ticket, has the value step once when its turn has come, and lets the next ticket have its turn.
+    // Draws a ticket, has the value step once when its turn has come, and lets the next ticket have
+    // its turn.
     pub(super) fn step<R: Wait>(&self, rt: &R, place: &mut Place<M>, number: u32) -> M::Answer
         requires table { place.old.table_id ≡ self.now.table.shared.table_id }
         requires rests { place.old.me
@@ -75,8 +76,10 @@ impl<M: Turned> Ruled<M> {
         ensures table { (place.new.table_id ≡ place.old.table_id) × (place.new.id ≡ place.old.id) }
         ensures place { place.new.me
             ≡ (with_turn number (seen_by place.new.me.0) place.old.me.0, []) }
-        ensures turn { Turns number (λ before after. M.replies (M.base (given self.now)) before number result after)
-            (seen_by place.old.me.0) (mine_of place.old.me.0) (seen_by place.new.me.0) (mine_of place.new.me.0) }
+        ensures turn { Turns number
+            (λ before after. M.replies (M.base (given self.now)) before number result after)
+            (seen_by place.old.me.0) (mine_of place.old.me.0)
+            (seen_by place.new.me.0) (mine_of place.new.me.0) }
     {
         let desk = &self.table.shared;
         let ticket = desk.fetch_add::<Draw>(place, TICKET, 1);

@@ -21,7 +21,8 @@ impl<M: Turned> Ruled<M> {
         ensures mine { GoesOn (mine seat.old) (mine seat.new) }
 
         ensures turned { IfOk result (λ answer. Turns (number seat.old)
-            (λ before after. M.replies (M.base (given self.now)) before (number seat.old) answer after)
+            (λ before after.
+            M.replies (M.base (given self.now)) before (number seat.old) answer after)
             (seen seat.old) (mine seat.old) (seen seat.new) (mine seat.new)) }
         ensures counted { OnOk result (turns seat.new ≡ turns seat.old + 1) }
         ensures unspent { OnOk result (turns seat.old < 2 ^ 40) }

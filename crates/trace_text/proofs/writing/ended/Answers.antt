@@ -1,4 +1,4 @@
-use Rattle.std.proofs.Common.{ℕ, List, ◌++◌, map, sym, ap, ◌∙◌, subst}
+use Rattle.std.proofs.Common.{rules, ℕ, List, ◌++◌, map, sym, ap, ◌∙◌, subst}
 use Rattle.std.specs.List.{AllByRecursion}
 use Rattle.moesi_state.specs.declared.State.{State}
 use Rattle.trace_text.specs.Spelling.{placed_word, carried_words}
@@ -12,10 +12,17 @@ states-requires-clause-boards c =
     subst (λ (z : List (ℕ × State)). AllByRecursion (λ (p : ℕ × State). IsBoard p.0) z) (sym c.items.ensures.items)
     (states_boards c.args.all.now.master c.args.all.now.states c.requires.board c.requires.states)
 
-pub returns-clause-bytes : goal.returns-clause-bytes
-returns-clause-bytes c =
-    ended_written c.args.text.now.bytes c.word.new.text.bytes c.states.new.text.bytes c.word-2.new.text.bytes
-    c.carried.new.text.bytes (map placed_word c.args.all.now.states) (carried_words c.args.all.now.done)
-    c.word.ensures.bytes (c.states.ensures.bytes
-    ∙ ap (λ (z : List (ℕ × State)). c.word.new.text.bytes ++ each_behind 32 (map placed_word z))
-    c.items.ensures.items) c.word-2.ensures.bytes c.carried.ensures.bytes
+pub returns : goal.returns
+returns c = record {
+  appends = record {
+    bytes =
+        ended_written c.args.text.now.bytes c.word.new.text.bytes c.states.new.text.bytes
+        c.word-2.new.text.bytes c.carried.new.text.bytes (map placed_word c.args.all.now.states)
+        (carried_words c.args.all.now.done) c.word.ensures.appends.bytes
+        (c.states.ensures.appends.bytes
+        ∙ ap (λ (z : List (ℕ × State)). c.word.new.text.bytes ++ each_behind 32 (map placed_word z))
+        c.items.ensures.items) c.word-2.ensures.appends.bytes c.carried.ensures.appends.bytes;
+    spare = search (rules, c);
+    kept = search (rules, c);
+  };
+}

@@ -1,7 +1,8 @@
 use Rattle.std.proofs.Common.{◌≡◌, ◌∙◌, ap, sym, subst}
 use Rattle.std.specs.Prelude.{vec_capacity}
 use Rattle.bus_model.specs.Configuration.{Phase, is_connected}
-use Rattle.bus_model.specs.Turns.{turn_for, access_turn, own_transaction}
+use Rattle.bus_model.specs.Turns.{own_transaction}
+use Rattle.bus_model.specs.TurnParts.{turn_for, access_turn}
 use Rattle.backplane.specs.Machine.{Machine, IsBoard, configuration, configuration_after}
 use Rattle.backplane.specs.Plans.{planned}
 use Rattle.backplane.proofs.Stepping.{part-of, stands-sound}

@@ -1,6 +1,6 @@
 use Rattle.std.proofs.Common.{◌∙◌, ap, sym}
 use Rattle.bus_signals.specs.Accesses.{line_of}
-use Rattle.bus_model.specs.Turns.{local_turn, action_turn}
+use Rattle.bus_model.specs.TurnParts.{local_turn, action_turn}
 use Rattle.backplane.proofs.Planning.{decide-shown, action-shown}
 use Rattle.backplane.proofs.parts.Parts.plan.Goals as goal
 

@@ -1,6 +1,6 @@
 use Rattle.std.proofs.Common.{◌≡◌, ◌∙◌, ap, sym, Bool, false}
 use Rattle.bus_model.specs.Configuration.{Phase, is_granted}
-use Rattle.bus_model.specs.Turns.{bus_turn}
+use Rattle.bus_model.specs.TurnParts.{bus_turn}
 use Rattle.backplane.proofs.parts.Parts.plan_bus.Goals as goal
 
 pub returns : goal.returns

@@ -1,5 +1,5 @@
 use Rattle.std.proofs.Common.{◌∙◌, ap, sym, Bool}
-use Rattle.bus_model.specs.Turns.{room_turn}
+use Rattle.bus_model.specs.TurnParts.{room_turn}
 use Rattle.backplane.proofs.parts.Parts.plan_room.Goals as goal
 
 pub returns-then-not-is_clean : goal.returns-then-not-is_clean

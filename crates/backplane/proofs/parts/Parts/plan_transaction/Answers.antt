@@ -1,7 +1,7 @@
 use Rattle.std.proofs.Common.{◌∙◌, ap, sym, ℕ}
 use Rattle.bus_signals.specs.Accesses.{line_of}
 use Rattle.bus_model.specs.Configuration.{is_granted}
-use Rattle.bus_model.specs.Turns.{bus_turn, transaction_turn}
+use Rattle.bus_model.specs.TurnParts.{bus_turn, transaction_turn}
 use Rattle.backplane.proofs.parts.Parts.plan_transaction.Goals as goal
 
 pub returns-in-None : goal.returns-in-None
