@@ -168,7 +168,7 @@ pub fn put_memory(memory: &mut MemoryBoard, line: LineNo, words: [u32; 4])
     requires { 4 * line < length memory.old }
     ensures { lines_of_words memory.new ≡ slice_set (lines_of_words memory.old) line words }
 {
-    let _lines = memory.lines();
+    let _lines = memory.lines(); // gives whole lines to the prover
     memory.take_line(line, words);
 }
 
@@ -177,6 +177,6 @@ pub fn get_memory(memory: &MemoryBoard, line: LineNo) -> [u32; 4]
     requires { 4 * line < length memory.now }
     ensures { result ≡ memory_line (lines_of_words memory.now) line }
 {
-    let _lines = memory.lines();
+    let _lines = memory.lines(); // gives whole lines to the prover
     memory.line(line)
 }

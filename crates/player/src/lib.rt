@@ -47,7 +47,7 @@ pub fn finish(machine: &mut Machine)
         machine.round();
         made = machine.journal().len();
     }
-    let _ = made;
+    let _ = made; // gives the bound on rounds to the prover
 }
 
 /// Plays a schedule from the opening: its turns, and then rounds until every script is at its end.

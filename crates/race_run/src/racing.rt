@@ -30,8 +30,7 @@ impl Turned for Racing {
     ghost replies = { IsTurn };
 
     fn step(&mut self, who: u32) -> Moved {
-        // What stands before the turn is sound.
-        let _journal = self.machine.journal();
+        let _journal = self.machine.journal(); // gives Sound to the prover
         self.machine.advance(BoardNo(who as u8))
     }
 

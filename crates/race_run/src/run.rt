@@ -42,7 +42,7 @@ fn open(
     ensures handed_back { IfErr result (λ f. f.machine ≡ machine) }
 {
     let boards = machine.boards();
-    let _journal = machine.journal();
+    let _journal = machine.journal(); // gives Sound to the prover
     match Ruled::new(alloc, Racing { machine }, boards as u32) {
         Ok(opened) => Ok(opened),
         Err(OpenFault { value }) => {
@@ -86,7 +86,7 @@ fn close(shared: Ruled<Racing>, seats: Vec<BoardSeat<Racing>>) -> Machine
     ensures sound { Sound result.setup result.journal (configuration result) }
 {
     let Racing { machine } = shared.close(seats);
-    let _journal = machine.journal();
+    let _journal = machine.journal(); // gives Sound to the prover
     machine
 }
 
@@ -125,6 +125,6 @@ pub fn race<G: Gate + Sync, R: Threads + Wait + Sync>(
     let spent = is_any_spent(seats.as_slice());
     let machine = close(shared, seats);
     let machine = ended(machine, spent);
-    let _journal = machine.journal();
+    let _journal = machine.journal(); // gives Sound to the prover
     Ok(machine)
 }

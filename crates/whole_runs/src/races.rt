@@ -29,7 +29,7 @@ fn open(alloc: Global, machine: Machine) -> Result<(Ruled<Racing>, Vec<BoardSeat
     ensures own { IfOk result (λ r. All (IsSeat r.0) r.1.items) }
 {
     let boards = machine.boards();
-    let _journal = machine.journal();
+    let _journal = machine.journal(); // gives Sound to the prover
     match Ruled::new(alloc, Racing { machine }, boards as u32) {
         Ok(opened) => Ok(opened),
         Err(OpenFault { value }) => {

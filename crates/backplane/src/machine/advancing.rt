@@ -94,7 +94,7 @@ impl Machine {
         ensures rows { length (configuration self.new).rows ≤ (needed self.new.setup).frames }
     {
         let moved = self.turn(board);
-        let _journal = self.journal();
+        let _journal = self.journal(); // gives Sound and Legal to the prover
         self.within_need();
         moved
     }

@@ -131,7 +131,7 @@ impl Machine {
         ensures rows { length (configuration self.new).rows ≤ (needed self.new.setup).frames }
     {
         let applied = self.attempt(event);
-        let _journal = self.journal();
+        let _journal = self.journal(); // gives Sound and Legal to the prover
         self.within_need();
         applied
     }

@@ -55,7 +55,7 @@ impl Machine {
         ensures replies { reply_count self.now ≤ (needed self.now.setup).replies }
         ensures rows { length (configuration self.now).rows ≤ (needed self.now.setup).frames }
     {
-        let _pool = self.parts.rack.pool();
+        let _pool = self.parts.rack.pool(); // gives the counts to the prover
     }
 
     /// The words of the only frame that a machine has, where a board has a copy: the frame is out

@@ -31,7 +31,7 @@ impl Machine {
             (board_places self.old.setup)) }
         ensures goes_on { (Complete self.old.setup (configuration self.old) → ⊥) → 1 ≤ result }
     {
-        let _journal = self.journal();
+        let _journal = self.journal(); // gives Sound to the prover
         let boards = self.boards();
         let mut did = 0;
         for place in 0..boards {
