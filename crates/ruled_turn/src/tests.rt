@@ -29,7 +29,8 @@ impl Turned for Diary {
 
     ghost admits = { λ _ _. ⊤ };
 
-    ghost replies = { λ _ before who answer after. MatchBool answer (after ≡ before ++ (who, tt) ∷ []) (after ≡ before) };
+    ghost replies = { λ _ before who answer after.
+        MatchBool answer (after ≡ before ++ (who, tt) ∷ []) (after ≡ before) };
 
     fn step(&mut self, who: u32) -> bool {
         if self.numbers.len() == self.numbers.capacity() {

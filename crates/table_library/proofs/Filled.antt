@@ -32,26 +32,30 @@ pub locals_twice :
     → with_locals (with_locals table state event xs) state event ys ≡ with_locals table state event (xs ++ ys)
 unfolding with_locals
 locals_twice table state event xs ys =
-    ap (λ (cells : List (List LocalAction)). record table { locals = cells }) (set_twice table.locals (local_cell state event) xs ys)
+    ap (λ (cells : List (List LocalAction)). record table { locals = cells })
+    (set_twice table.locals (local_cell state event) xs ys)
 
 pub locals_nothing :
     (table : Table) (state : State) (event : LocalEvent) → with_locals table state event [] ≡ table
 unfolding with_locals
 locals_nothing table state event =
-    ap (λ (cells : List (List LocalAction)). record table { locals = cells }) (set_nothing table.locals (local_cell state event))
+    ap (λ (cells : List (List LocalAction)). record table { locals = cells })
+    (set_nothing table.locals (local_cell state event))
 
 pub answers_twice :
     (table : Table) (state : State) (event : BusEvent) (xs ys : List SnoopAction)
     → with_answers (with_answers table state event xs) state event ys ≡ with_answers table state event (xs ++ ys)
 unfolding with_answers
 answers_twice table state event xs ys =
-    ap (λ (cells : List (List SnoopAction)). record table { answers = cells }) (set_twice table.answers (answer_cell state event) xs ys)
+    ap (λ (cells : List (List SnoopAction)). record table { answers = cells })
+    (set_twice table.answers (answer_cell state event) xs ys)
 
 pub answers_nothing :
     (table : Table) (state : State) (event : BusEvent) → with_answers table state event [] ≡ table
 unfolding with_answers
 answers_nothing table state event =
-    ap (λ (cells : List (List SnoopAction)). record table { answers = cells }) (set_nothing table.answers (answer_cell state event))
+    ap (λ (cells : List (List SnoopAction)). record table { answers = cells })
+    (set_nothing table.answers (answer_cell state event))
 
 -- ---- the loops over alternatives
 

@@ -62,8 +62,8 @@ pub record HasNeeds (table part : Table) : Type 0 where
       → Contains (answers_of part state event) action
       → Contains (answers_of table state event) action
 
--- Where a table has any part in the class, some state set is good for it, and what is left of it has
--- all that the part needs.
+-- Where a table has any part in the class, some state set is good for it, and what is left of it
+-- has all that the part needs.
 abbrev pub NarrowedIsLargest : Type 0
 NarrowedIsLargest =
     (table part : Table) → IsPart part table → InClass part

@@ -222,15 +222,16 @@ fn nobody() -> Takers {
     }
 }
 
-#[test]
-fn a_small_journal_is_counted(rt: HostRuntime) -> Result<(), Fail> {
+/// Two boards on one line: the first fetches it, the second reads it from the first, writes a word
+/// for both, and invalidates the other copy.
+fn small_journal() -> [Event; 9] {
     let mut boards = Places::new();
     boards.push(BoardNo(1));
     let both = Takers {
         memory: true,
         boards,
     };
-    let journal = [
+    [
         connect(1, BusEvent::Rfo),
         data(1, BusEvent::Rfo, Source::Memory, nobody()),
         connect(2, BusEvent::Rd),
@@ -248,8 +249,12 @@ fn a_small_journal_is_counted(rt: HostRuntime) -> Result<(), Fail> {
         data(2, BusEvent::Bwr, Source::Nobody, both),
         connect(2, BusEvent::Inv),
         data(2, BusEvent::Inv, Source::Nobody, nobody()),
-    ];
-    let report = traffic(&journal);
+    ]
+}
+
+#[test]
+fn a_small_journal_is_counted(rt: HostRuntime) -> Result<(), Fail> {
+    let report = traffic(&small_journal());
     let first = Counts {
         connects: 1,
         words: 4,
