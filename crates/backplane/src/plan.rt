@@ -185,7 +185,7 @@ impl Parts {
         }
     }
 
-    /// What a board is to do for a transaction: it connects it where the bus is granted to it.
+    /// What a board is to do for a transaction: it connects it if the bus is granted to it.
     fn plan_bus(&self, board: BoardNo, line: LineNo, event: BusEvent, outcome: Outcome) -> Plan
         requires { IsPartOf self.now board }
         ensures { (setup : Setup) (events : List Event) (c : Configuration) → Sound setup events c

@@ -1,4 +1,4 @@
-//! Turns of two seats, one after another and from two threads, and want of memory.
+//! Turns of two seats, one after another and from two threads, and a lack of memory.
 
 ghost use Rattle.std.specs.Prelude.{◌≡◌, ℕ, ◌<◌, ◌≤◌, ◌^◌, ⊤, [], ◌∷◌, ◌++◌, map, length, All, IfOk, IfErr, MatchBool};
 ghost use Rattle.ruled_turn.specs.Seats.{seats_of, IsSeatOf};

@@ -95,7 +95,7 @@ locals_step locals state events i d before after whole within now was =
     ∙ sym (at_drop_more (filled_locals locals state before) events i d within)
     ∙ was
 
--- The same of an answer cell.
+-- The same for an answer cell.
 pub answers_step :
     (answers : State → BusEvent → List SnoopAction) (state : State) (events : List BusEvent) (i : ℕ)
     (d : BusEvent) (before after whole : Table) → i < length events
@@ -107,7 +107,7 @@ answers_step answers state events i d before after whole within now was =
     ∙ sym (at_drop_more (filled_answers answers state before) events i d within)
     ∙ was
 
--- The same of all cells of a state.
+-- The same for all cells of a state.
 pub states_step :
     (locals : State → LocalEvent → List LocalAction) (answers : State → BusEvent → List SnoopAction)
     (states : List State) (i : ℕ) (d : State) (before middle after whole : Table) → i < length states

@@ -1,4 +1,4 @@
--- What is narrowed is in the class.
+-- A narrowed table is in the class.
 use Rattle.std.proofs.Common.{◌≡◌, Bool, true, false, ◌&&◌, ◌⊎◌, inl, inr, List, [], ◌∷◌, Some, None, filter, sym, ap, ◌∙◌, subst}
 use Rattle.std.specs.Prelude.{IsTrue, All, if◌then◌else◌}
 use Rattle.std.specs.List.{list_any}

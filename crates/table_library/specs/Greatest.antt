@@ -40,7 +40,7 @@ KeptIsGreatest =
 abbrev pub NarrowedIsInClass : Type 0
 NarrowedIsInClass = (table : Table) → IsTrue (has_good_set table) → InClass (narrowed table)
 
--- A part of a table: each alternative of each of its cells stands in the table's cell.
+-- A part of a table: each alternative of each of its cells is in the table's cell.
 pub record IsPart (part table : Table) : Type 0 where
   pub locals :
       (state : State) (event : LocalEvent) (action : LocalAction)

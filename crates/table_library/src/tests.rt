@@ -162,8 +162,8 @@ fn what_is_not_reached_goes(rt: HostRuntime) -> Result<(), Fail> {
     Ok(())
 }
 
-/// Without O a copy-back table has nothing in the class, since it is written by M that answers `rd`
-/// by O.
+/// Without O a copy-back table has nothing in the class, since its writes lead to M, which answers
+/// `rd` by O.
 #[test]
 fn nothing_may_be_left(rt: HostRuntime) -> Result<(), Fail> {
     let Ok(cached) = library(rt.alloc(), Kind::Invalidate) else {
@@ -175,7 +175,7 @@ fn nothing_may_be_left(rt: HostRuntime) -> Result<(), Fail> {
     Ok(())
 }
 
-/// Each round leaves out one state: E, which has no cells, then M, O, S, and I at last.
+/// Each round leaves out one state: E, which has no cells, then M, O, S, and finally I.
 #[test]
 fn states_may_go_one_by_one(rt: HostRuntime) -> Result<(), Fail> {
     let Ok(cached) = library(rt.alloc(), Kind::Invalidate) else {
