@@ -51,7 +51,7 @@ pub enum Plan {
     },
 }
 
-/// Whether an access leaves a line as it is: it is no write, and the state stays.
+/// Whether an access leaves a line as it is: it is not a write, and the state stays.
 pub fn is_quiet(access: &Access, before: State, after: State) -> bool
     ensures { result ≡ is_quiet access.now before after }
 {
