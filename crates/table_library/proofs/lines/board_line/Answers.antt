@@ -21,12 +21,24 @@ returns c =
             c.supplied_and_taken.ensures.appends.bytes
             ∙ ap (λ (t : List ℕ). c.args.text.now.bytes ++ t) (board_pieces c.args.board counts);
         spare =
-            omega (arith, c.push.ensures.spare, c.number.ensures.least, c.field.ensures.appends.spare,
-            c.field-2.ensures.appends.spare, c.field-3.ensures.appends.spare,
-            c.supplied_and_taken.ensures.appends.spare);
+            omega (
+              arith,
+              c.push.ensures.spare,
+              c.number.ensures.least,
+              c.field.ensures.appends.spare,
+              c.field-2.ensures.appends.spare,
+              c.field-3.ensures.appends.spare,
+              c.supplied_and_taken.ensures.appends.spare,
+            );
         kept =
-            omega (arith, c.push.ensures.room, c.number.ensures.room, c.field.ensures.appends.kept,
-            c.field-2.ensures.appends.kept, c.field-3.ensures.appends.kept,
-            c.supplied_and_taken.ensures.appends.kept);
+            omega (
+              arith,
+              c.push.ensures.room,
+              c.number.ensures.room,
+              c.field.ensures.appends.kept,
+              c.field-2.ensures.appends.kept,
+              c.field-3.ensures.appends.kept,
+              c.supplied_and_taken.ensures.appends.kept,
+            );
       };
     }
