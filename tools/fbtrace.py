@@ -203,8 +203,8 @@ class Reader:
         move = self.kept.get(text) or self.keep(text)
         if not done or not move:
             return move
-        event, words = Done(), done.split()
-        event.kind, event.board, event.line, event.move, event.done = move.kind, move.board, move.line, move, done[:-1]
+        event, words = Done(), done.split(" ")
+        event.kind, event.board, event.line, event.move, event.done = move.kind, move.board, move.line, move, done
         event.access, count = words[0], len(words)
         event.address = int(words[1]) if count > 1 else None
         event.value = int(words[-1]) if count > 2 else None
@@ -383,21 +383,22 @@ class Trace:
 
     def lines(self):
         """The lines of memory that events name, in order."""
-        found, words = set(), set()
+        found = set()
         with open(self.path, "rb") as trace:
-            while text := b"\n" + b"".join(trace.readlines(1 << 20)):
-                if len(text) == 1:
+            for text in whole_lines(trace, 1 << 20):
+                found.update(map(int, set(re.findall(rb" line (\d+)", text))))
+                words = set(re.findall(rb"(?m)^local \d+ \w to \w done \w+ (\d+)", text))
+                found.update(int(address) >> 2 for address in words)
+                if len(found) >= len(self.setup.memory):
                     break
-                found.update(re.findall(rb" line (\d+)", text))
-                words.update(re.findall(rb"\nlocal \d+ \w to \w done \w+ (\d+)", text))
-        return sorted({*map(int, found), *(int(address) >> 2 for address in words)})
+        return sorted(found)
 
     def blocks(self):
         """The events in lists, since to read them one at a time costs more. No event stands after the end of them."""
         reader = Reader()
-        with open(self.path, encoding="ascii") as trace:
-            while lines := trace.readlines(BLOCK):
-                events = reader.events(lines)
+        with open(self.path, "rb") as trace:
+            for text in whole_lines(trace, BLOCK):
+                events = reader.events(text.decode("ascii").split("\n"))
                 if events[-1] is None:
                     yield events[: events.index(None)]
                     break
@@ -427,6 +428,16 @@ class Trace:
         """Asks the judge whether what was computed here is what replay prints."""
         if self.judge:
             self.judge.check(self.machine)
+
+
+def whole_lines(file, size):
+    """The bytes of a file in blocks of about this size that end before a line feed. What follows the last one is left
+    out, since it is no line."""
+    rest = b""
+    while block := file.read(size):
+        text, feed, rest = (rest + block).rpartition(b"\n")
+        if feed:
+            yield text
 
 
 def text_of(line):
