@@ -342,11 +342,12 @@ class Judge:
     def compare(self, printed):
         """Keeps what replay prints. Gives how the ending in the trace differs from it, or none."""
         with open(self.path, "rb") as trace:
-            for line in trace:
-                if line == b"end\n":
+            while lines := trace.readlines(BLOCK):
+                if b"end\n" in lines:
                     break
-            first = next(trace, None)
-            lines, differs = itertools.chain([first], trace), None
+            lines = itertools.chain(lines[lines.index(b"end\n") + 1 :] if lines else [], trace)
+            first = next(lines, None)
+            lines, differs = itertools.chain([first], lines), None
             for number, line in enumerate(printed, 1):
                 self.keep(line)
                 if first is not None and not differs and (other := next(lines, None)) != line:
@@ -418,7 +419,7 @@ class Trace:
     def applied(self):
         """The events, each when `machine` stands after it."""
         steps = self.machine.steps
-        for self.number, event in enumerate(self.read(), 1):
+        for event in self.read():
             if event.kind in steps:
                 steps[event.kind](event)
             yield event
