@@ -5,6 +5,7 @@ of a trace: `read` asks it first, and refuses a trace whose ending is not the on
 that is computed here. What is kept does not grow with the trace: replies are hashed, board by board."""
 
 import argparse
+import gc
 import hashlib
 import itertools
 import operator
@@ -283,7 +284,7 @@ class Machine:
     def do_data(self, event):
         """The words that a data phase moves, and the states that it leaves."""
         move, line, copies, is_write = event.move, event.line, self.copies, event.access == "write"
-        board = move.board
+        board = event.board
         words = self.supplied(move) if move.event in LINE_READS else copies[board].get(line, NO_COPY)[1]
         if is_write:
             words = written(words, event)
@@ -359,8 +360,9 @@ class Judge:
 
     def keep(self, line):
         self.first = self.first or line
-        if line.startswith(b"answer "):
-            self.answers[int(line.split(b" ", 2)[1])].update(line)
+        words = line.split(b" ", 2)
+        if words[0] == b"answer":
+            self.answers[int(words[1])].update(line)
         else:
             self.rest.append(line)
 
@@ -388,7 +390,7 @@ class Trace:
         with open(self.path, "rb") as trace:
             for text in whole_lines(trace, 1 << 20):
                 found.update(map(int, set(re.findall(rb" line (\d+)", text))))
-                words = set(re.findall(rb"(?m)^local \d+ \w to \w done \w+ (\d+)", text))
+                words = set(re.findall(rb"\nlocal \d+ \w to \w done \w+ (\d+)", b"\n" + text))
                 found.update(int(address) >> 2 for address in words)
                 if len(found) >= len(self.setup.memory):
                     break
@@ -477,6 +479,8 @@ def lines_of(asked, setup, option="--lines"):
 
 def run_main(name, main):
     """Runs a tool: a text that is unfit is one line on standard error and status 2."""
+    # The tools keep nothing in cycles, so there is nothing for the collector to find in the many events of a trace.
+    gc.disable()
     try:
         status = main()
         sys.stdout.flush()
