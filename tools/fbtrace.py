@@ -408,6 +408,7 @@ class Trace:
                 yield events
 
     def read(self):
+        """The events, which change nothing in `machine`: who asks for them does that, and calls `check` at the end."""
         return itertools.chain.from_iterable(self.blocks())
 
     def __iter__(self):
