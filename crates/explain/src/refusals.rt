@@ -82,9 +82,8 @@ pub fn say_raise(
     access: &Access,
 ) -> Result<(), NoMemory> {
     at.show_word(text, 1)?;
-    let phase = seen.phase();
-    if phase.is_of(board) {
-        return say_phase(text, phase);
+    if seen.has_bus(board) {
+        return say_phase(text, seen.phase());
     }
     say_no_request(text, seen, board, access)
 }
