@@ -1,7 +1,7 @@
 -- What a run printed is replayed alike.
-use Rattle.std.proofs.Common.{◌≡◌, ℕ, ◌≤◌, ◌++◌, true, false, List, [], ◌∷◌, refl, ap, sym, ◌∙◌, arith, append_assoc, append-nil}
+use Rattle.std.proofs.Common.{◌≡◌, ℕ, ◌≤◌, ◌++◌, true, false, List, [], ◌∷◌, Option, None, Some, refl, ap, sym, ◌∙◌, subst, arith, append_assoc, append-nil}
 use Rattle.std.proofs.lemmas.Bool.Decides.{nat_tests}
-use Rattle.std.specs.Prelude.{Ok, codes, length, nat_lt, if◌then◌else◌}
+use Rattle.std.specs.Prelude.{Ok, IfOk, Result, codes, length, nat_lt, if◌then◌else◌}
 use Rattle.std.specs.List.{AllByRecursion, list_all, flat_map}
 use Rattle.fb_text.specs.Unread.{unread}
 use Rattle.fb_text.specs.Written.{line_bytes}
@@ -14,16 +14,18 @@ use Rattle.bus_model.specs.Setup.{Setup}
 use Rattle.bus_model.specs.Events.{Event}
 use Rattle.bus_model.specs.Configuration.{opening}
 use Rattle.bus_model.specs.Runs.{after_all}
-use Rattle.backplane.specs.Machine.{opened}
+use Rattle.class_relation.specs.Tables.{Table}
+use Rattle.backplane.specs.Machine.{Machine, configuration, opened}
+use Rattle.replayer.specs.declared.fault.ReplayFault.{ReplayFault}
 use Rattle.replayer.specs.Replaying.{replayed}
 use Rattle.replayer.proofs.Saying.{accepts}
 use Rattle.run_text.specs.RunText.{run_text, ending}
 use Rattle.fb_cli.specs.declared.role.Role.{Role}
 use Rattle.fb_cli.specs.declared.role.Role.TheVariants as roles
-use Rattle.fb_cli.specs.Report.{is_accepted}
-use Rattle.fb_cli.specs.Output.{Output, limit_of, within, on_read, with_file, if_accepted, with_accepted, report_output}
+use Rattle.fb_cli.specs.Report.{is_accepted, report}
+use Rattle.fb_cli.specs.Output.{Output, limit_of, within, on_read, with_file, if_accepted, with_accepted}
 use Rattle.fb_cli.specs.Command.{AreSetup}
-use Rattle.fb_cli.specs.Replay.{on_replayed, trace_output, replay_output}
+use Rattle.fb_cli.specs.Replay.{IsEnding, on_replayed, trace_refusal, replay_refusal}
 use Rattle.fb_cli.specs.Headline.{RunHolds}
 use Rattle.fb_cli.proofs.AcceptedTables.{all-accepted}
 
@@ -53,30 +55,49 @@ run_replayed setup events holds =
 
 -- A file that is not too long is not refused for its length.
 pub is_within :
-    (role : Role) (bytes : List ℕ) (wanted : Output) → length bytes ≤ limit_of role → within role bytes wanted ≡ wanted
-is_within role bytes wanted short =
+    (role : Role) (bytes : List ℕ) (rest : Option Output) → length bytes ≤ limit_of role
+    → within role bytes rest ≡ rest
+is_within role bytes rest short =
     let no : nat_lt (limit_of role) (length bytes) ≡ false = grind (arith, nat_tests) in rw no refl
 
--- The output that a setup of a file asks for.
-pub with_setup_is : (bytes : List ℕ) (setup : Setup) (wanted : Setup → Output) → AreSetup setup bytes
-    → with_file roles.Setup setup_at bytes wanted ≡ wanted setup
-with_setup_is bytes setup wanted read =
-    is_within roles.Setup bytes (on_read roles.Setup wanted (setup_at (unread bytes))) read.0
-    ∙ ap (on_read roles.Setup wanted) read.1
+-- The refusal of a setup of a file.
+pub with_setup_is : (bytes : List ℕ) (setup : Setup) (refusal : Setup → Option Output) → AreSetup setup bytes
+    → with_file roles.Setup setup_at bytes refusal ≡ refusal setup
+with_setup_is bytes setup refusal read =
+    is_within roles.Setup bytes (on_read roles.Setup refusal (setup_at (unread bytes))) read.0
+    ∙ ap (on_read roles.Setup refusal) read.1
 
--- The output that an accepted setup of a file asks for.
-pub with_accepted_is : (bytes : List ℕ) (setup : Setup) (wanted : Setup → Output) → AreSetup setup bytes
-    → list_all is_accepted setup.tables ≡ true → with_accepted bytes wanted ≡ wanted setup
-with_accepted_is bytes setup wanted read accepted =
-    with_setup_is bytes setup (λ s. if_accepted s (wanted s)) read
-    ∙ ap (λ b. if b then wanted setup else report_output setup.tables) accepted
+-- Accepted tables are not refused.
+pub if_accepted_is : (tables : List Table) (rest : Option Output) → list_all is_accepted tables ≡ true
+    → if_accepted tables rest ≡ rest
+if_accepted_is tables rest accepted =
+    ap (λ b. if b then rest else Some (record { status = 1; text = report tables })) accepted
 
+-- The refusal of an accepted setup of a file.
+pub with_accepted_is : (bytes : List ℕ) (setup : Setup) (refusal : Setup → Option Output) → AreSetup setup bytes
+    → list_all is_accepted setup.tables ≡ true → with_accepted bytes refusal ≡ refusal setup
+with_accepted_is bytes setup refusal read accepted =
+    with_setup_is bytes setup (λ s. if_accepted s.tables (refusal s)) read
+    ∙ if_accepted_is setup.tables (refusal setup) accepted
+
+-- The text of a run is not refused,
 pub replayed_alike :
     (bytes : List ℕ) (setup : Setup) (events : List Event) → AreSetup setup bytes → RunHolds setup events
-    → replay_output bytes (run_text setup events (after_all (opening setup) events))
-    ≡ record { status = 0; text = ending setup events (after_all (opening setup) events) }
+    → replay_refusal bytes (run_text setup events (after_all (opening setup) events)) ≡ None
 replayed_alike bytes setup events read holds =
     let text = run_text setup events (after_all (opening setup) events) in
-    with_accepted_is bytes setup (λ s. trace_output (opened s) text) read (all-accepted setup.tables holds.accepted)
+    with_accepted_is bytes setup (λ s. trace_refusal (opened s) text) read (all-accepted setup.tables holds.accepted)
     ∙ (is_within roles.Trace text (on_replayed (replayed (opened setup) text)) holds.short
     ∙ ap on_replayed (run_replayed setup events holds))
+
+-- and its ending is the ending of the run.
+pub ends_alike :
+    (setup : Setup) (events : List Event) → RunHolds setup events
+    → IsEnding (opened setup) (run_text setup events (after_all (opening setup) events))
+    (ending setup events (after_all (opening setup) events))
+ends_alike setup events holds =
+    subst
+    (λ (r : Result Machine ReplayFault).
+    IfOk r
+    (λ (m : Machine). ending setup events (after_all (opening setup) events) ≡ ending m.setup m.journal (configuration m)))
+    (sym (run_replayed setup events holds)) refl

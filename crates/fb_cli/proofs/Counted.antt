@@ -9,7 +9,8 @@ use Rattle.generator.specs.Generated.{generated}
 use Rattle.generator.specs.Schedule.{seeded_turns}
 use Rattle.tally.specs.Tally.{tally_text}
 use Rattle.fb_cli.specs.Run.{turns_of}
-use Rattle.fb_cli.specs.Tally.{tally_output}
+use Rattle.fb_cli.specs.Tally.{counts_of}
+use Rattle.fb_cli.specs.Output.{Output}
 
 -- The journal of a machine of the generated setup, after the seeded schedule was played on it.
 journal_is : (seed : ℕ) (setup : Setup) (first last : Machine) (accesses : ℕ) (journal : List Event)
@@ -27,6 +28,10 @@ journal_is seed setup first last accesses journal made start counted turned same
     ∙ ap (λ (n : ℕ). played setup (seeded_turns seed (length setup.boards) n)) counted
     ∙ ap (λ (s : Setup). played s (seeded_turns seed (length s.boards) (access_count s))) made
 
+-- A text that is printed with status 0.
+abbrev pub done : List ℕ → Output
+done text = record { status = 0; text = text }
+
 pub counted_output :
     (seed : ℕ) (setup : Setup) (first last : Machine) (accesses : ℕ) (journal : List Event) (before bytes : List ℕ)
     → setup ≡ generated seed → first ≡ opened setup → accesses ≡ access_count setup
@@ -36,7 +41,7 @@ pub counted_output :
       journal = played first.setup (seeded_turns seed (length first.setup.boards) accesses);
     }
     → journal ≡ last.journal → before ≡ [] → bytes ≡ before ++ tally_text seed journal (entries journal)
-    → record { status = 0; text = bytes } ≡ tally_output seed
+    → done bytes ≡ done (counts_of seed)
 counted_output seed setup first last accesses journal before bytes made start counted turned same empty written =
     let text =
     written

@@ -1,16 +1,17 @@
 -- From what words came to, and how it was printed, to how the call ends.
 use Rattle.std.proofs.Common.{◌≡◌, ◌⊎◌, inl, inr, ℕ, ◌≤◌, ◌<◌, List, [], ◌∷◌, Option, Some, None, refl, sym, ◌∙◌, subst, arith}
 use Rattle.std.specs.Prelude.{IfSome}
+use Rattle.std.specs.Option.{option_map_or}
 use Rattle.fb_edge.specs.Outside.{AppendsFront}
 use Rattle.fb_cli.specs.declared.answers.Answer.{Answer}
 use Rattle.fb_cli.specs.declared.answers.Answer.TheVariants.{Said, Ran, Replayed}
 use Rattle.fb_cli.specs.declared.answers.Outcome.TheVariants as outcomes
 use Rattle.fb_cli.specs.declared.answers.Refusal.TheVariants.{NoRow, Unread, NoMemory}
 use Rattle.fb_cli.specs.declared.answers.Reply.{Reply}
-use Rattle.fb_cli.specs.declared.answers.Reply.TheVariants.{Answered, Refused}
+use Rattle.fb_cli.specs.declared.answers.Reply.TheVariants.{Answered, Refused, Explained}
 use Rattle.fb_cli.specs.declared.role.Role.{Role}
 use Rattle.fb_cli.specs.Output.{Output, Files, refusal_output}
-use Rattle.fb_cli.specs.Command.{File, Command, Found, none, found, Answers, Asked, Does, Due, IsAnswer, IsUnread, Written, known}
+use Rattle.fb_cli.specs.Command.{File, Command, Found, none, found, Answers, Asked, Does, Due, Follows, IsAnswer, IsUnread, Written, known, status_on}
 use Rattle.fb_cli.specs.Replies.{Comes, ComesTo, answer_output, reply_output}
 
 -- The statuses of answers: 0, 1, 3 and 7.
@@ -36,13 +37,21 @@ is_outcome (Replayed machine room) =
 -- The status of a command, or want of memory, unless a count rose.
 abbrev Exact : Command → Option Files → Type 0 → Type 0 → ℕ → Type 0
 Exact command k A B status =
-    IfSome k (λ bytes_of. (A → ⊥) → (B → ⊥) → (status ≡ command.status bytes_of) ⊎ (status ≡ 6))
+    IfSome k (λ bytes_of. (A → ⊥) → (B → ⊥) → (status ≡ status_on command bytes_of) ⊎ (status ≡ 6))
+
+-- An answer has the status of its command.
+settled :
+    (Tells : List ℕ → List ℕ → Type 0) (Prints : List ℕ → Type 0) (refusal : Option Output) (o : Output)
+    → Follows Tells Prints refusal o → o.status ≡ option_map_or (λ (r : Output). r.status) refusal 0
+settled Tells Prints None o follows = follows.0
+settled Tells Prints (Some refusal) o follows = follows.0
 
 as_known :
     (command : Command) (k : Option Files) (A B : Type 0) (o : Output) (status : ℕ)
     → IfSome k (λ bytes_of. IsAnswer command bytes_of o) → status ≡ o.status → Exact command k A B status
 as_known command None A B o status asked is = tt
-as_known command (Some bytes_of) A B o status asked is = λ _ _. inl (is ∙ asked.settled)
+as_known command (Some bytes_of) A B o status asked is =
+    λ _ _. inl (is ∙ settled command.tells (command.prints bytes_of) (command.refusal bytes_of) o asked)
 
 no_memory_left :
     (command : Command) (k : Option Files) (A B : Type 0) (status : ℕ) → status ≡ 6 → Exact command k A B status
@@ -105,17 +114,18 @@ was_said command files A B before after o status asked outcome (inl (is, taken))
 -- A file was not read.
 was_unread :
     (command : Command) (files : Option Files) (A B : Type 0) (before after : Option (List ℕ)) (role : Role)
-    (status : ℕ)
-    → IsUnread command.opens files A role → Written (refusal_output (Unread role)) B before after status
+    (text : List ℕ) (status : ℕ)
+    → IsUnread command.opens files A role → command.tells (refusal_output (Unread role)).text text
+    → Written (record { status = 4; text = text }) B before after status
     → Answers command files A B before after status
-was_unread command files A B before after role status unread (inr (is, rose, front)) =
-    cut_short command files A B before after _ status (inr (inl (role, unread, refl))) is rose front
-was_unread command files A B before after role status unread (inl (is, taken)) = record {
+was_unread command files A B before after role text status unread told (inr (is, rose, front)) =
+    cut_short command files A B before after text status (inr (inl (role, unread, told))) is rose front
+was_unread command files A B before after role text status unread told (inl (is, taken)) = record {
   done = λ s. absurd (omega arith);
   refused = λ s. absurd (omega arith);
   matched = λ s. omega arith;
   malformed = λ s. absurd (omega arith);
-  unread = λ s. (role, unread, taken);
+  unread = λ s. (role, unread, (text, told, taken));
   unwritten = λ s. absurd (omega arith);
   no_memory = λ s. absurd (omega arith);
   too_long = λ s. absurd (omega arith);
@@ -150,17 +160,27 @@ answers :
 answers command files A B before after (Answered a) status asked written =
     was_said command files A B before after (answer_output a) status asked (is_outcome a) written
 answers command files A B before after (Refused NoRow) status gives written = absurd gives
-answers command files A B before after (Refused (Unread role)) status unread written =
-    was_unread command files A B before after role status unread written
+answers command files A B before after (Refused (Unread role)) status (unread, told) written =
+    was_unread command files A B before after role (refusal_output (Unread role)).text status unread told written
 answers command files A B before after (Refused NoMemory) status gives written =
     had_no_memory command files A B before after status written
+answers command files A B before after (Explained NoRow text) status gives written = absurd gives
+answers command files A B before after (Explained (Unread role) text) status (unread, told) written =
+    was_unread command files A B before after role text.bytes status unread told written
+answers command files A B before after (Explained NoMemory text) status is written =
+    had_no_memory command files A B before after status
+    (subst (λ (t : List ℕ). Written (record { status = 6; text = t }) B before after status) is written)
 
 -- What words came to was printed.
 pub does :
     (asked : Found) (files : Option Files) (A B : Type 0) (before after : Option (List ℕ)) (reply : Reply) (status : ℕ)
     → ComesTo asked files A reply → Written (reply_output reply) B before after status
     → Does asked files A B before after status
-does none files A B before after reply status no_row written =
-    subst (λ r. Written (reply_output r) B before after status) no_row written
+does (none Tells) files A B before after reply status (is, told) written =
+    let o = reply_output reply in (
+      o.text,
+      told,
+      subst (λ (p : Output). Written p B before after status) (λ i. record { status = is i; text = o.text }) written,
+    )
 does (found command) files A B before after reply status comes written =
     answers command files A B before after reply status comes written

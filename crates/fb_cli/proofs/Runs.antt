@@ -1,5 +1,5 @@
 -- What holds of a complete run.
-use Rattle.std.proofs.Common.{◌≡◌, ℕ, ◌++◌, List, [], ◌∷◌, refl, sym, subst}
+use Rattle.std.proofs.Common.{◌≡◌, ℕ, ◌++◌, List, [], ◌∷◌, None, refl, sym, subst}
 use Rattle.std.specs.List.{AllByRecursion}
 use Rattle.trace_text.specs.Ranges.{InRange}
 use Rattle.bus_model.specs.Setup.{Setup, WellFormed, AllInClass}
@@ -11,10 +11,11 @@ use Rattle.bus_model.specs.Entries.{entries, Legal}
 use Rattle.coherence.proofs.Steps.{every_run_is_sound, complete_runs_have_their_scripts}
 use Rattle.run_text.specs.Lengths.{RunTextsFit}
 use Rattle.run_text.specs.RunText.{ending}
+use Rattle.backplane.specs.Machine.{opened}
 use Rattle.fb_cli.specs.Command.{AreSetup}
 use Rattle.fb_cli.specs.Headline.{RunHolds, IsTextOfRun, IsRunOf}
-use Rattle.fb_cli.specs.Replay.{replay_output}
-use Rattle.fb_cli.proofs.Alike.{replayed_alike}
+use Rattle.fb_cli.specs.Replay.{IsEnding, replay_refusal}
+use Rattle.fb_cli.proofs.Alike.{replayed_alike, ends_alike}
 
 -- The first events of a run are a run.
 front :
@@ -55,7 +56,7 @@ holds setup events well accepted runs complete spelled fit legal = record {
 }
 
 -- The run of a finished machine of a setup of these bytes.
-pub of_run :
+abbrev pub of_run :
     (bytes : List ℕ) (setup : Setup) (text : List ℕ) → AreSetup setup bytes → IsTextOfRun setup text
     → IsRunOf bytes text
 of_run bytes setup text read run = record {
@@ -63,8 +64,9 @@ of_run bytes setup text read run = record {
   read = read.1;
   run = run;
   replayed =
+      subst (λ t. replay_refusal bytes t ≡ None) (sym run.text) (replayed_alike bytes setup run.events read run.holds);
+  ended =
       subst (λ t.
-      replay_output bytes t
-      ≡ record { status = 0; text = ending setup run.events (after_all (opening setup) run.events) })
-      (sym run.text) (replayed_alike bytes setup run.events read run.holds);
+      IsEnding (opened setup) t (ending setup run.events (after_all (opening setup) run.events)))
+      (sym run.text) (ends_alike setup run.events run.holds);
 }

@@ -1,10 +1,11 @@
 -- What a command is, and what a call that does it may answer.
 use Rattle.std.specs.Io.KnownBytes.{Appends}
 use Rattle.fb_edge.specs.Outside.{AppendsFront}
-use Rattle.std.specs.Prelude.{◌≡◌, ◌⊎◌, ℕ, ◌≤◌, List, [], ◌∷◌, length, Option, Some, IfSome, Ok}
+use Rattle.std.specs.Prelude.{◌≡◌, ◌⊎◌, ℕ, ◌≤◌, List, [], ◌∷◌, length, Option, None, Some, IfSome, Ok}
+use Rattle.std.specs.Option.{option_map_or}
 pub use Rattle.fb_text.specs.Unread.{unread}
 pub use Rattle.setup_text.specs.Reading.{setup_at}
-pub use Rattle.fb_cli.specs.Output.{Output, Files, Role, Refusal, Setup, is_accepted, limit_of, output, refusal_output, fault_output, report_output, within, on_read, with_file, if_accepted, with_accepted}
+pub use Rattle.fb_cli.specs.Output.{Output, Files, Role, Refusal, Setup, is_accepted, limit_of, output, refusal_output, fault_output, within, on_read, with_file, if_accepted, with_accepted}
 
 -- A file that a command opens: its role, which sets its limit, and what has to hold of the files
 -- that were read before it.
@@ -12,13 +13,18 @@ pub record File : Type 1 where
   pub role : Role
   pub after : Files → Type 0
 
--- A command: the files that it opens, in their order; what it may answer on the bytes of the files;
--- the status that it ends with where nothing fails; and what holds of what it wrote with status 0.
+-- A command: the files that it opens, in their order; its refusal on the bytes of the files, or
+-- none; what holds of the text that it prints where it is not refused; and what holds of the text
+-- that it prints for the text of a refusal.
 pub record Command : Type 1 where
   pub opens : List File
-  pub may : Files → Output → Type 0
-  pub status : Files → ℕ
-  pub promises : Files → List ℕ → Type 0
+  pub refusal : Files → Option Output
+  pub prints : Files → List ℕ → Type 0
+  pub tells : List ℕ → List ℕ → Type 0
+
+-- The text of a refusal as it is.
+abbrev pub alone : List ℕ → List ℕ → Type 0
+alone refusal text = text ≡ refusal
 
 -- The setup, which is opened first.
 abbrev pub setup_file : File
@@ -33,22 +39,30 @@ abbrev pub file_on : Role → (setup : List ℕ) → (Setup → Type 0) → File
 file_on role setup Fits =
     record { role = role; after = λ bytes_of. (s : Setup) × AreSetup s (bytes_of setup) × Fits s }
 
--- A command that has one output on its files, and promises no more than that.
-abbrev pub exactly : List File → (Files → Output) → Command
-exactly opens wanted =
-    record {
-      opens = opens;
-      may = λ bytes_of o. o ≡ wanted bytes_of;
-      status = λ bytes_of. (wanted bytes_of).status;
-      promises = λ bytes_of text. Unit {0};
-    }
+-- A command that prints its refusals as they are.
+abbrev pub on_files : List File → (Files → Option Output) → (Files → List ℕ → Type 0) → Command
+on_files opens refusal prints =
+    record { opens = opens; refusal = refusal; prints = prints; tells = alone }
 
--- An answer on these files: the command may answer it, it has the command's status, and with status
--- 0 it is as promised.
-pub record IsAnswer (command : Command) (bytes_of : Files) (o : Output) : Type 0 where
-  pub allowed : command.may bytes_of o
-  pub settled : o.status ≡ command.status bytes_of
-  pub promised : o.status ≡ 0 → command.promises bytes_of o.text
+-- A command that opens no file, is never refused, and prints this.
+abbrev pub printing : List ℕ → Command
+printing wanted = on_files [] (λ bytes_of. None) (λ bytes_of text. text ≡ wanted)
+
+-- An output with status 0 and such a text, or one that tells a refusal.
+abbrev pub Follows :
+    (List ℕ → List ℕ → Type 0) → (List ℕ → Type 0) → Option Output → Output → Type 0
+Follows Tells Prints None o = (o.status ≡ 0) × Prints o.text
+Follows Tells Prints (Some refusal) o =
+    (o.status ≡ refusal.status) × Tells refusal.text o.text
+
+-- An answer of a command on these files.
+abbrev pub IsAnswer : Command → Files → Output → Type 0
+IsAnswer command bytes_of =
+    Follows command.tells (command.prints bytes_of) (command.refusal bytes_of)
+
+-- The status of a command on these files.
+abbrev pub status_on : Command → Files → ℕ
+status_on command bytes_of = option_map_or (λ (o : Output). o.status) (command.refusal bytes_of) 0
 
 -- The files, as far as they are known. To a command that opens none, all that it needs is known.
 abbrev pub known : List File → Option Files → Option Files
@@ -78,7 +92,7 @@ abbrev pub Due : Command → Option Files → Type 0 → List ℕ → Type 0
 Due command files shelf_rose text =
     ((o : Output) × Asked command files o × (text ≡ o.text))
     ⊎ (((role : Role) × IsUnread command.opens files shelf_rose role
-    × (text ≡ (refusal_output (Refusal.Unread role)).text))
+    × command.tells (refusal_output (Refusal.Unread role)).text text)
     ⊎ (text ≡ (refusal_output Refusal.NoMemory).text))
 
 -- How a call that does a command ends: each status comes only where its field says. `before` and
@@ -92,7 +106,8 @@ pub record Answers (command : Command) (files : Option Files) (shelf_rose sink_r
   pub unread :
       status ≡ 4
       → (role : Role) × IsUnread command.opens files shelf_rose role
-      × Appends before after (refusal_output (Refusal.Unread role)).text
+      × ((text : List ℕ) × command.tells (refusal_output (Refusal.Unread role)).text text
+      × Appends before after text)
   pub unwritten :
       status ≡ 5
       → sink_rose
@@ -104,7 +119,7 @@ pub record Answers (command : Command) (files : Option Files) (shelf_rose sink_r
   pub exact :
       IfSome (known command.opens files)
       (λ bytes_of.
-      (shelf_rose → ⊥) → (sink_rose → ⊥) → (status ≡ command.status bytes_of) ⊎ (status ≡ 6))
+      (shelf_rose → ⊥) → (sink_rose → ⊥) → (status ≡ status_on command bytes_of) ⊎ (status ≡ 6))
 
 -- The text was taken whole and the status answered, or a write failed and 5 was answered.
 abbrev pub Written : Output → Type 0 → Option (List ℕ) → Option (List ℕ) → ℕ → Type 0
@@ -112,16 +127,17 @@ Written o sink_rose before after status =
     ((status ≡ o.status) × Appends before after o.text)
     ⊎ ((status ≡ 5) × sink_rose × AppendsFront before after o.text)
 
--- The command that words ask for, if they match a row.
+-- The command that words ask for, if they match a row, and else how they are refused.
 pub data Found : Type 1 where
-  none : Found
+  none : (List ℕ → List ℕ → Type 0) → Found
   found : Command → Found
 
 -- How a call ends that does what words ask for. Words that match no row are refused, whatever the
 -- files, and nothing but a failed write keeps status 2 away.
 abbrev pub Does :
     Found → Option Files → Type 0 → Type 0 → Option (List ℕ) → Option (List ℕ) → ℕ → Type 0
-Does none files shelf_rose sink_rose before after status =
-    Written (refusal_output Refusal.NoRow) sink_rose before after status
+Does (none Tells) files shelf_rose sink_rose before after status =
+    (text : List ℕ) × Tells (refusal_output Refusal.NoRow).text text
+    × Written (record { status = 2; text = text }) sink_rose before after status
 Does (found command) files shelf_rose sink_rose before after status =
     Answers command files shelf_rose sink_rose before after status

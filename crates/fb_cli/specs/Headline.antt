@@ -1,5 +1,5 @@
 -- What a run that was printed promises.
-use Rattle.std.specs.Prelude.{◌≡◌, ℕ, ◌≤◌, List, ◌∷◌, ◌++◌, length, map, Ok}
+use Rattle.std.specs.Prelude.{◌≡◌, ℕ, ◌≤◌, List, ◌∷◌, ◌++◌, length, map, None, Ok}
 use Rattle.std.specs.List.{AllByRecursion}
 use Rattle.trace_text.specs.Ranges.{InRange}
 use Rattle.bus_model.specs.Setup.{AllInClass, script_of}
@@ -7,10 +7,11 @@ use Rattle.bus_model.specs.Events.{Event, Grant}
 use Rattle.bus_model.specs.Steps.{CanGrant}
 use Rattle.bus_model.specs.Entries.{Entry, entries, entries_of, Legal}
 use Rattle.bus_model.specs.Soundness.{Sound}
+use Rattle.backplane.specs.Machine.{opened}
 use Rattle.fb_cli.specs.Command.{unread, setup_at, Role, Setup, limit_of}
 pub use Rattle.bus_model.specs.Configuration.{opening}
 pub use Rattle.bus_model.specs.Runs.{Run, Complete, after_all}
-pub use Rattle.fb_cli.specs.Replay.{run_text, ending, replay_output}
+pub use Rattle.fb_cli.specs.Replay.{run_text, ending, replay_refusal, IsEnding}
 
 -- What holds of a complete run of a setup with these events: its tables are in the class, each
 -- event is a step and has its line, its text is not too long to be replayed, each script is done
@@ -42,12 +43,12 @@ pub record IsTextOfRun (setup : Setup) (bytes : List ℕ) : Type 0 where
   pub holds : RunHolds setup events
   pub text : bytes ≡ run_text setup events (after_all (opening setup) events)
 
--- The text is that of a run of the setup of these bytes. `replay` of it on them has status 0, and
+-- The text is that of a run of the setup of these bytes. `replay` of it on them is not refused, and
 -- prints what stands there after the line `end`.
 pub record IsRunOf (bytes text : List ℕ) : Type 0 where
   pub setup : Setup
   pub read : setup_at (unread bytes) ≡ Ok setup
   pub run : IsTextOfRun setup text
-  pub replayed :
-      replay_output bytes text
-      ≡ record { status = 0; text = ending setup run.events (after_all (opening setup) run.events) }
+  pub replayed : replay_refusal bytes text ≡ None
+  pub ended :
+      IsEnding (opened setup) text (ending setup run.events (after_all (opening setup) run.events))

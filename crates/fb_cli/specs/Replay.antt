@@ -1,39 +1,46 @@
 -- `replay`: a trace replayed on a setup, and what its reading piece by piece comes to.
-use Rattle.std.specs.Prelude.{◌≡◌, ℕ, ◌+◌, ◌<◌, List, [], ◌∷◌, ◌++◌, length, true, Option, IfSome, Result, Ok, Err, codes, decimal}
+use Rattle.std.specs.Prelude.{◌≡◌, ℕ, ◌+◌, ◌<◌, List, [], ◌∷◌, ◌++◌, length, true, Option, None, Some, IfSome, IfOk, Result, Ok, Err, codes, decimal}
 use Rattle.std.specs.List.{list_all}
 use Rattle.backplane.specs.Machine.{Machine, configuration, opened}
 use Rattle.replayer.specs.declared.fault.ReplayFault.{ReplayFault}
 use Rattle.replayer.specs.Replaying.{replayed}
 use Rattle.replayer.specs.Standing.{Replaying, StandsFor}
 use Rattle.fb_cli.specs.declared.replaying.TraceFileFault.{TraceFileFault}
-use Rattle.fb_cli.specs.Command.{Role, Output, is_accepted, output, within, with_accepted, Command, exactly, setup_file, file_on}
+use Rattle.fb_cli.specs.Command.{unread, setup_at, Role, Output, is_accepted, output, within, with_accepted, Command, on_files, setup_file, file_on}
 pub use Rattle.run_text.specs.RunText.{run_text, ending}
 
--- The output where a trace was replayed: the ending of its run, or why it is not that of a complete
--- run.
-abbrev pub on_replayed : Result Machine ReplayFault → Output
-on_replayed (Ok machine) =
-    record { status = 0; text = ending machine.setup machine.journal (configuration machine) }
+-- The refusal of a trace that was replayed, if it is not that of a complete run.
+abbrev pub on_replayed : Result Machine ReplayFault → Option Output
+on_replayed (Ok machine) = None
 on_replayed (Err (ReplayFault.Spelling number)) =
-    output 1 (codes "fault trace line " ++ (decimal number ++ codes " spelling"))
+    Some (output 1 (codes "fault trace line " ++ (decimal number ++ codes " spelling")))
 on_replayed (Err (ReplayFault.NotARun number)) =
-    output 1 (codes "fault trace line " ++ (decimal number ++ codes " not-a-run"))
+    Some (output 1 (codes "fault trace line " ++ (decimal number ++ codes " not-a-run")))
 on_replayed (Err (ReplayFault.Unfinished board)) =
-    output 1 (codes "fault trace unfinished " ++ decimal board)
+    Some (output 1 (codes "fault trace unfinished " ++ decimal board))
 
--- What a trace of these bytes on a machine prints.
-abbrev pub trace_output : Machine → List ℕ → Output
-trace_output machine bytes = within Role.Trace bytes (on_replayed (replayed machine bytes))
+-- The refusal of a trace of these bytes on a machine.
+abbrev pub trace_refusal : Machine → List ℕ → Option Output
+trace_refusal machine bytes = within Role.Trace bytes (on_replayed (replayed machine bytes))
 
--- What `replay` prints on files of these bytes.
-abbrev pub replay_output : List ℕ → List ℕ → Output
-replay_output bytes trace = with_accepted bytes (λ setup. trace_output (opened setup) trace)
+-- The text is the ending of the run that a trace of these bytes tells.
+abbrev pub IsEnding : Machine → List ℕ → List ℕ → Type 0
+IsEnding machine bytes text =
+    IfOk (replayed machine bytes)
+    (λ m. text ≡ ending m.setup m.journal (configuration m))
+
+-- The refusal of files of these bytes.
+abbrev pub replay_refusal : List ℕ → List ℕ → Option Output
+replay_refusal bytes trace = with_accepted bytes (λ setup. trace_refusal (opened setup) trace)
 
 -- The command on files of these names.
 abbrev pub replay : (setup trace : List ℕ) → Command
 replay setup trace =
-    exactly (setup_file ∷ file_on Role.Trace setup (λ s. list_all is_accepted s.tables ≡ true) ∷ [])
-    (λ bytes_of. replay_output (bytes_of setup) (bytes_of trace))
+    on_files
+    (setup_file ∷ file_on Role.Trace setup (λ s. list_all is_accepted s.tables ≡ true) ∷ [])
+    (λ bytes_of. replay_refusal (bytes_of setup) (bytes_of trace))
+    (λ bytes_of text.
+    IfOk (setup_at (unread (bytes_of setup))) (λ s. IsEnding (opened s) (bytes_of trace) text))
 
 -- A replay was fed with these bytes.
 abbrev pub FedWith : Replaying → List ℕ → Replaying → Type 0

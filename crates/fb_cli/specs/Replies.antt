@@ -1,11 +1,11 @@
 -- What the steps of a command come to: what was read, or the reply with which the command stops.
-use Rattle.std.specs.Prelude.{◌≡◌, ℕ, List, Option, IfSome}
+use Rattle.std.specs.Prelude.{◌≡◌, ℕ, List, Option, Some, None, IfSome, Result, Ok, Err}
 use Rattle.backplane.specs.Machine.{configuration}
 use Rattle.setup_text.specs.declared.fault.SetupFault.{SetupFault}
 use Rattle.fb_cli.specs.declared.answers.Answer.{Answer}
 use Rattle.fb_cli.specs.declared.answers.Outcome.{Outcome}
 use Rattle.fb_cli.specs.declared.answers.Reply.{Reply}
-use Rattle.fb_cli.specs.Command.{Output, Files, Role, Refusal, refusal_output, fault_output, Command, Found, none, found, Asked, IsUnread}
+use Rattle.fb_cli.specs.Command.{Output, Files, Role, Refusal, refusal_output, fault_output, Command, Found, none, found, Asked, IsUnread, known}
 use Rattle.fb_cli.specs.Replay.{run_text, ending}
 
 -- The status of an outcome.
@@ -27,6 +27,33 @@ answer_output (Answer.Replayed machine room) =
 abbrev pub reply_output : Reply → Output
 reply_output (Reply.Answered answer) = answer_output answer
 reply_output (Reply.Refused refusal) = refusal_output refusal
+reply_output (Reply.Explained refusal text) =
+    record { status = (refusal_output refusal).status; text = text.bytes }
+
+-- A text tells this refusal of a command: a file was not read, or memory ran out.
+abbrev pub IsRefused : Command → Option Files → Type 0 → Refusal → List ℕ → Type 0
+IsRefused command files shelf_rose Refusal.NoRow text = ⊥
+IsRefused command files shelf_rose (Refusal.Unread role) text =
+    IsUnread command.opens files shelf_rose role
+    × command.tells (refusal_output (Refusal.Unread role)).text text
+IsRefused command files shelf_rose Refusal.NoMemory text =
+    text ≡ (refusal_output Refusal.NoMemory).text
+
+-- What a command comes to before it is printed.
+abbrev pub Comes : Command → Option Files → Type 0 → Reply → Type 0
+Comes command files shelf_rose (Reply.Answered answer) =
+    Asked command files (answer_output answer)
+Comes command files shelf_rose (Reply.Refused refusal) =
+    IsRefused command files shelf_rose refusal (refusal_output refusal).text
+Comes command files shelf_rose (Reply.Explained refusal text) =
+    IsRefused command files shelf_rose refusal text.bytes
+
+-- What words come to.
+abbrev pub ComesTo : Found → Option Files → Type 0 → Reply → Type 0
+ComesTo (none Tells) files shelf_rose reply =
+    ((reply_output reply).status ≡ 2)
+    × Tells (refusal_output Refusal.NoRow).text (reply_output reply).text
+ComesTo (found command) files shelf_rose reply = Comes command files shelf_rose reply
 
 -- A reply is an answer of this kind, or it tells of a file in such a role that was not read, or
 -- that memory ran out.
@@ -35,20 +62,25 @@ Gives Wanted Failed (Reply.Answered answer) = Wanted (answer_output answer)
 Gives Wanted Failed (Reply.Refused Refusal.NoRow) = ⊥
 Gives Wanted Failed (Reply.Refused (Refusal.Unread role)) = Failed role
 Gives Wanted Failed (Reply.Refused Refusal.NoMemory) = Unit {0}
+Gives Wanted Failed (Reply.Explained refusal text) = ⊥
 
--- What a command comes to before it is printed.
-abbrev pub Comes : Command → Option Files → Type 0 → Reply → Type 0
-Comes command files shelf_rose =
-    Gives (Asked command files) (IsUnread command.opens files shelf_rose)
+-- A reply with which a command stops before it is done: its refusal, as far as the files are known,
+-- or that a file was not read, or want of memory.
+abbrev pub Stops : Command → Option Files → Type 0 → Reply → Type 0
+Stops command files shelf_rose =
+    Gives (λ o. IfSome (known command.opens files) (λ bytes_of. command.refusal bytes_of ≡ Some o))
+    (IsUnread command.opens files shelf_rose)
 
--- What words come to.
-abbrev pub ComesTo : Found → Option Files → Type 0 → Reply → Type 0
-ComesTo none files shelf_rose reply = reply ≡ Reply.Refused Refusal.NoRow
-ComesTo (found command) files shelf_rose reply = Comes command files shelf_rose reply
+-- Nothing stands against a command, as far as the files are known, or it stops with a reply.
+abbrev pub Ready : {X : Type 0} → Command → Option Files → Type 0 → Result X Reply → Type 0
+Ready command files shelf_rose (Ok x) =
+    IfSome (known command.opens files) (λ bytes_of. command.refusal bytes_of ≡ None)
+Ready command files shelf_rose (Err reply) = Stops command files shelf_rose reply
 
--- This holds of the output of a reply, if it is an answer.
-abbrev pub IfAnswered : (Output → Type 0) → Reply → Type 0
-IfAnswered Holds = Gives Holds (λ role. Unit {0})
+-- The same of what words ask for.
+abbrev pub IsReady : {X : Type 0} → Found → Option Files → Type 0 → Result X Reply → Type 0
+IsReady (none Tells) files shelf_rose result = result ≡ Err (Reply.Refused Refusal.NoRow)
+IsReady (found command) files shelf_rose result = Ready command files shelf_rose result
 
 -- The output tells of this fault.
 abbrev pub TellsFault : Role → SetupFault → Output → Type 0
@@ -59,8 +91,8 @@ TellsFault role SetupFault.NoMemory o = ⊥
 -- A reply with which a command stops at a file: it is the output that the bytes ask for, whatever
 -- is wanted of what would be read of them; or the file in this role was not read.
 abbrev pub StopsAt :
-    {W : Type 0} → Role → Option Files → (name : List ℕ) → Type 0 → (List ℕ → W → Output) → Reply
-    → Type 0
+    {W : Type 0} → Role → Option Files → (name : List ℕ) → Type 0
+    → (List ℕ → W → Option Output) → Reply → Type 0
 StopsAt {W} role files name shelf_rose asks =
-    Gives (λ o. IfSome files (λ bytes_of. (wanted : W) → o ≡ asks (bytes_of name) wanted))
+    Gives (λ o. IfSome files (λ bytes_of. (rest : W) → asks (bytes_of name) rest ≡ Some o))
     (λ other. (other ≡ role) × shelf_rose)

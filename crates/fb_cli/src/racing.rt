@@ -9,8 +9,9 @@ ghost use Rattle.fb_cli.specs.Headline.{IsTextOfRun};
 ghost use Rattle.fb_cli.specs.Replies.{Comes, answer_output};
 
 use crate::answers::{Answer, Reply};
-use crate::opening::open_accepted;
 use crate::room::Room;
+use crate::running::ready_setup;
+use crate::seen::Seen;
 use crate::starting::{ran, start};
 use backplane::Machine;
 use fb_edge::{Gate, Shelf};
@@ -54,7 +55,7 @@ pub fn race_file<F: Shelf, G: Gate + Sync, R: Threads + Wait + Sync>(
     ensures { Comes (race name.now) (F.file shelf.old)
         (Rose (F.faults shelf.old) (F.faults shelf.new)) result }
 {
-    match open_accepted(alloc, name, shelf) {
+    match ready_setup(alloc, name, shelf, &mut Seen::nothing(alloc)) {
         Ok(setup) => Reply::of(raced(rt, alloc, setup, gate)),
         Err(reply) => reply,
     }

@@ -1,18 +1,20 @@
 //! `replay`: a trace replayed on a setup, read piece by piece.
 
-ghost use Rattle.std.specs.Prelude.{◌≡◌, ◌≤◌, ◌<◌, ◌^◌, [], true, Ok, Err, length, IfOk, IfErr, IfSome, OnOk, option_map};
+ghost use Rattle.std.specs.Prelude.{◌≡◌, ◌≤◌, ◌<◌, ◌^◌, [], true, None, Some, Ok, Err, length, IfOk, IfErr, IfSome, OnOk, option_map};
 ghost use Rattle.std.specs.List.{list_all};
 ghost use Rattle.fb_edge.specs.Outside.{Rose};
 ghost use Rattle.backplane.specs.Machine.{opened};
 ghost use Rattle.replayer.specs.Replaying.{replayed};
 ghost use Rattle.fb_cli.specs.Report.{is_accepted};
-ghost use Rattle.fb_cli.specs.Replay.{FedWith, TraceCause, on_replayed, replay, trace_output};
-ghost use Rattle.fb_cli.specs.Replies.{Comes, Gives, answer_output};
+ghost use Rattle.fb_cli.specs.Output.{limit_of};
+ghost use Rattle.fb_cli.specs.Replay.{FedWith, TraceCause, on_replayed, replay, trace_refusal};
+ghost use Rattle.fb_cli.specs.Replies.{Comes, Gives, Ready, answer_output};
 
 use crate::answers::{Answer, LINE, Outcome, Refusal, Reply, long_answer};
-use crate::opening::{limit_of, open_accepted};
+use crate::opening::{limit_of, open, open_accepted};
 use crate::role::Role;
 use crate::room::Room;
+use crate::seen::Seen;
 use crate::starting::start;
 use crate::words::number;
 use backplane::Machine;
@@ -101,7 +103,7 @@ pub fn replay_file<F: Shelf>(
 
 /// The answer where a trace is not that of a complete run.
 fn trace_answer(alloc: Global, fault: ReplayFault) -> Result<Answer, NoMemory>
-    ensures output { IfOk result (λ answer. answer_output answer ≡ on_replayed (Err fault)) }
+    ensures { IfOk result (λ answer. on_replayed (Err fault) ≡ Some (answer_output answer)) }
 {
     let mut text = Text::new(alloc);
     text.reserve(LINE)?;
@@ -128,36 +130,60 @@ fn trace_answer(alloc: Global, fault: ReplayFault) -> Result<Answer, NoMemory>
     })
 }
 
-/// The ending of the run of a file's trace on a machine at its opening.
-fn traced<F: Shelf>(alloc: Global, machine: Machine, name: &str, shelf: &mut F) -> Reply
+/// A machine on which a trace was replayed, and room for the lines of the ending.
+#[derive(Drop)]
+pub struct Replayed {
+    pub machine: Machine,
+    pub room: Room,
+}
+
+/// The machine of a file's trace, from one at its opening.
+fn traced<F: Shelf>(
+    alloc: Global,
+    machine: Machine,
+    name: &str,
+    shelf: &mut F,
+) -> Result<Replayed, Reply>
     requires opening { machine.journal ≡ [] }
-    ensures { Gives
-        (λ o. IfSome (F.file shelf.old) (λ file. o ≡ trace_output machine (file name.now)))
-        (λ role. (role ≡ Role.Trace) × (Rose (F.faults shelf.old) (F.faults shelf.new))) result }
+    ensures replayed { IfOk result (λ r. IfSome (F.file shelf.old)
+        (λ file. (length (file name.now) ≤ limit_of Role.Trace)
+        × (replayed machine (file name.now) ≡ Ok r.machine))) }
+    ensures stops { IfErr result (Gives
+        (λ o. IfSome (F.file shelf.old) (λ file. trace_refusal machine (file name.now) ≡ Some o))
+        (λ role. (role ≡ Role.Trace) × (Rose (F.faults shelf.old) (F.faults shelf.new)))) }
 {
     let Ok(room) = Room::new(alloc) else {
-        return Reply::Refused(Refusal::NoMemory);
+        return Err(Reply::Refused(Refusal::NoMemory));
     };
     match replay_file(machine, shelf, name, limit_of(Role::Trace)) {
-        Ok(machine) => Reply::Answered(Answer::Replayed { machine, room }),
-        Err(TraceFileFault::Failed) => Reply::Refused(Refusal::Unread(Role::Trace)),
+        Ok(machine) => Ok(Replayed { machine, room }),
+        Err(TraceFileFault::Failed) => Err(Reply::Refused(Refusal::Unread(Role::Trace))),
         Err(TraceFileFault::TooLong { taken }) => {
-            Reply::of(long_answer(alloc, Role::Trace, taken))
+            Err(Reply::of(long_answer(alloc, Role::Trace, taken)))
         }
-        Err(TraceFileFault::Trace(fault)) => Reply::of(trace_answer(alloc, fault)),
+        Err(TraceFileFault::Trace(fault)) => Err(Reply::of(trace_answer(alloc, fault))),
     }
 }
 
-/// The ending of the run of a file's trace on a setup whose tables are accepted.
-fn ended<F: Shelf>(alloc: Global, setup: Setup, name: &str, shelf: &mut F) -> Reply
+/// The machine of a file's trace, on a setup whose tables are accepted.
+fn ended<F: Shelf>(
+    alloc: Global,
+    setup: Setup,
+    name: &str,
+    shelf: &mut F,
+) -> Result<Replayed, Reply>
     requires { list_all is_accepted setup.tables ≡ true }
-    ensures { Gives
-        (λ o. IfSome (F.file shelf.old) (λ file. o ≡ trace_output (opened setup) (file name.now)))
-        (λ role. (role ≡ Role.Trace) × (Rose (F.faults shelf.old) (F.faults shelf.new))) result }
+    ensures replayed { IfOk result (λ r. IfSome (F.file shelf.old)
+        (λ file. (length (file name.now) ≤ limit_of Role.Trace)
+        × (replayed (opened setup) (file name.now) ≡ Ok r.machine))) }
+    ensures stops { IfErr result (Gives
+        (λ o. IfSome (F.file shelf.old)
+        (λ file. trace_refusal (opened setup) (file name.now) ≡ Some o))
+        (λ role. (role ≡ Role.Trace) × (Rose (F.faults shelf.old) (F.faults shelf.new)))) }
 {
     match start(alloc, setup) {
         Ok(machine) => traced(alloc, machine, name, shelf),
-        Err(NoMemory) => Reply::Refused(Refusal::NoMemory),
+        Err(NoMemory) => Err(Reply::Refused(Refusal::NoMemory)),
     }
 }
 
@@ -166,8 +192,69 @@ pub fn replay<F: Shelf>(alloc: Global, name: &str, trace: &str, shelf: &mut F) -
     ensures { Comes (replay name.now trace.now) (F.file shelf.old)
         (Rose (F.faults shelf.old) (F.faults shelf.new)) result }
 {
-    match open_accepted(alloc, name, shelf) {
-        Ok(setup) => ended(alloc, setup, trace, shelf),
+    match open_accepted(alloc, name, shelf, &mut Seen::nothing(alloc)) {
+        Ok(setup) => match ended(alloc, setup, trace, shelf) {
+            Ok(replayed) => Reply::Answered(Answer::Replayed {
+                machine: replayed.machine,
+                room: replayed.room,
+            }),
+            Err(reply) => reply,
+        },
         Err(reply) => reply,
+    }
+}
+
+/// Replays a trace on a machine at its opening.
+fn replay_bytes(machine: Machine, bytes: &[u8]) -> Result<Machine, ReplayFault>
+    requires { machine.journal ≡ [] }
+    ensures { result ≡ replayed machine bytes.now }
+{
+    let mut replay = Replay::start(machine);
+    replay.feed(bytes);
+    replay.finish()
+}
+
+/// The machine of a file's trace, on a setup whose tables are accepted. The trace is kept.
+fn kept<F: Shelf>(
+    alloc: Global,
+    setup: Setup,
+    name: &str,
+    shelf: &mut F,
+    seen: &mut Seen,
+) -> Result<Machine, Reply>
+    requires { list_all is_accepted setup.tables ≡ true }
+    ensures free { OnOk result (IfSome (F.file shelf.old)
+        (λ file. trace_refusal (opened setup) (file name.now) ≡ None)) }
+    ensures stops { IfErr result (Gives
+        (λ o. IfSome (F.file shelf.old)
+        (λ file. trace_refusal (opened setup) (file name.now) ≡ Some o))
+        (λ role. (role ≡ Role.Trace) × (Rose (F.faults shelf.old) (F.faults shelf.new)))) }
+{
+    let Ok(machine) = start(alloc, setup) else {
+        return Err(Reply::Refused(Refusal::NoMemory));
+    };
+    let bytes = open(alloc, Role::Trace, name, shelf, seen)?;
+    let replayed = replay_bytes(machine, &bytes);
+    seen.keep(Role::Trace, bytes);
+    match replayed {
+        Ok(machine) => Ok(machine),
+        Err(fault) => Err(Reply::of(trace_answer(alloc, fault))),
+    }
+}
+
+/// The machine of the trace of a file, on the setup of another. Both files are kept.
+pub fn ready<F: Shelf>(
+    alloc: Global,
+    name: &str,
+    trace: &str,
+    shelf: &mut F,
+    seen: &mut Seen,
+) -> Result<Machine, Reply>
+    ensures { Ready (replay name.now trace.now) (F.file shelf.old)
+        (Rose (F.faults shelf.old) (F.faults shelf.new)) result }
+{
+    match open_accepted(alloc, name, shelf, seen) {
+        Ok(setup) => kept(alloc, setup, trace, shelf, seen),
+        Err(reply) => Err(reply),
     }
 }

@@ -1,12 +1,12 @@
 //! The report of the checker on tables.
 
-ghost use Rattle.std.specs.Prelude.{◌≡◌, ◌<◌, ◌≤◌, ◌+◌, ◌++◌, ◌∷◌, [], length, flat_map, OnOk, IfOk, IfErr, true, if◌then◌else◌};
+ghost use Rattle.std.specs.Prelude.{◌≡◌, ◌<◌, ◌≤◌, ◌+◌, ◌++◌, ◌∷◌, [], length, flat_map, OnOk, IfOk, IfErr, Option, Some, true};
 ghost use Rattle.std.specs.List.{list_all};
 ghost use Rattle.fb_text.specs.Written.{after_words, line_bytes};
 ghost use Rattle.table_check.specs.Accepted.{faults};
 ghost use Rattle.fb_cli.specs.Report.{is_accepted, cell_name, alternative_of, fault_bytes, verdict_line, report_on, report};
-ghost use Rattle.fb_cli.specs.Output.{Output, if_accepted, report_output};
-ghost use Rattle.fb_cli.specs.Replies.{Gives, IfAnswered, answer_output};
+ghost use Rattle.fb_cli.specs.Output.{Output, if_accepted};
+ghost use Rattle.fb_cli.specs.Replies.{Gives};
 
 use crate::answers::{Answer, Outcome, Refusal, Reply};
 use crate::words::{number, word};
@@ -158,44 +158,38 @@ fn report_of(alloc: Global, tables: &[Table]) -> Result<Report, NoMemory>
     Ok(Report { accepted, text })
 }
 
-/// The answer of a report.
-fn verdict(report: Report) -> Answer
-    ensures { answer_output result
-        ≡ record { status = if report.accepted then 0 else 1; text = report.text.bytes } }
+/// The reply where a table is not in the class.
+fn refusal(report: Report) -> Reply
+    ensures { Gives (λ o. o ≡ record { status = 1; text = report.text.bytes }) (λ role. ⊥) result }
 {
-    if report.accepted {
-        Answer::Said {
-            outcome: Outcome::Done,
-            text: report.text,
-        }
-    } else {
-        Answer::Said {
-            outcome: Outcome::Refused,
-            text: report.text,
-        }
-    }
+    Reply::Answered(Answer::Said {
+        outcome: Outcome::Refused,
+        text: report.text,
+    })
 }
 
-/// Reports on tables.
-pub fn report_on(alloc: Global, tables: &[Table]) -> Reply
-    ensures { Gives (λ o. o ≡ report_output tables.now) (λ role. ⊥) result }
+/// The report on tables that are all in the class, and else the reply with which a command stops.
+pub fn report_on(alloc: Global, tables: &[Table]) -> Result<Text, Reply>
+    ensures report { IfOk result (λ text. text.bytes ≡ report tables.now) }
+    ensures accepted { OnOk result (list_all is_accepted tables.now ≡ true) }
+    ensures stops { IfErr result (Gives
+        (λ o. (rest : Option Output) → if_accepted tables.now rest ≡ Some o) (λ role. ⊥)) }
 {
     match report_of(alloc, tables) {
-        Ok(report) => Reply::Answered(verdict(report)),
-        Err(NoMemory) => Reply::Refused(Refusal::NoMemory),
+        Ok(report) if report.accepted => Ok(report.text),
+        Ok(report) => Err(refusal(report)),
+        Err(NoMemory) => Err(Reply::Refused(Refusal::NoMemory)),
     }
 }
 
 /// Goes on where each table of a setup is in the class, and else stops with the report.
 pub fn judge(alloc: Global, setup: &Setup) -> Result<(), Reply>
     ensures accepted { OnOk result (list_all is_accepted setup.now.tables ≡ true) }
-    ensures stops { IfErr result
-        (Gives (λ o. (wanted : Output) → o ≡ if_accepted setup.now wanted) (λ role. ⊥)) }
-    ensures refused { IfErr result (IfAnswered (λ o. 0 < o.status)) }
+    ensures stops { IfErr result (Gives
+        (λ o. (rest : Option Output) → if_accepted setup.now.tables rest ≡ Some o) (λ role. ⊥)) }
 {
-    match report_of(alloc, setup.tables()) {
-        Ok(report) if report.accepted => Ok(()),
-        Ok(report) => Err(Reply::Answered(verdict(report))),
-        Err(NoMemory) => Err(Reply::Refused(Refusal::NoMemory)),
+    match report_on(alloc, setup.tables()) {
+        Ok(_) => Ok(()),
+        Err(reply) => Err(reply),
     }
 }

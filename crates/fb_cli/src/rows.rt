@@ -1,9 +1,10 @@
 //! What the words of a command line name after a first word.
 
 ghost use Rattle.std.specs.Prelude.{◌≡◌, ℕ, List, map, string_bytes, option_map};
-ghost use Rattle.fb_cli.specs.Rows.{file_after, file_and_seed_after, files_after, seed_after, seed_of};
+ghost use Rattle.fb_cli.specs.Rows.{alone_is, file_after, file_and_seed_after, files_after, page_after, seed_after, seed_of, words_after};
 
 use fb_text::number_within;
+use usage::page_named;
 
 /// The number that a word spells, if it is one of 64 bits.
 fn seed_of(word: &str) -> Option<u64>
@@ -12,6 +13,39 @@ fn seed_of(word: &str) -> Option<u64>
     match number_within(Some(word.as_bytes()), u64::MAX) {
         Ok(seed) => Some(seed),
         Err(_) => None,
+    }
+}
+
+/// Any words.
+pub fn words_after<'a>(name: &str, words: &'a [String]) -> Option<&'a [String]>
+    ensures { option_map (λ rest. map string_bytes rest.now) result
+        ≡ words_after name.now (map string_bytes words.now) }
+{
+    match words {
+        [word, rest @ ..] if word.as_str() == name => Some(rest),
+        _ => None,
+    }
+}
+
+/// No word.
+pub fn alone_is<'a>(name: &str, words: &'a [String]) -> Option<&'a str>
+    ensures { option_map (λ word. word.now) result
+        ≡ alone_is name.now (map string_bytes words.now) }
+{
+    match words {
+        [word] if word.as_str() == name => Some(word.as_str()),
+        _ => None,
+    }
+}
+
+/// The page of a command.
+pub fn page_after(name: &str, words: &[String]) -> Option<&'static str>
+    ensures { option_map (λ page. page.now) result
+        ≡ page_after name.now (map string_bytes words.now) }
+{
+    match words {
+        [word, command] if word.as_str() == name => page_named(command.as_str()),
+        _ => None,
     }
 }
 

@@ -1,13 +1,15 @@
 //! `show`: the one written spelling of a setup.
 
-ghost use Rattle.std.specs.Prelude.{◌≡◌};
+ghost use Rattle.std.specs.Prelude.{◌≡◌, IfOk, IfSome};
 ghost use Rattle.fb_edge.specs.Outside.{Rose};
+ghost use Rattle.fb_cli.specs.Command.{AreSetup};
 ghost use Rattle.fb_cli.specs.Show.{show};
 ghost use Rattle.setup_text.specs.Writing.{written_setup};
-ghost use Rattle.fb_cli.specs.Replies.{Comes, Gives};
+ghost use Rattle.fb_cli.specs.Replies.{Comes, Gives, Ready};
 
 use crate::answers::{Answer, Outcome, Refusal, Reply};
 use crate::opening::open_setup;
+use crate::seen::Seen;
 use fb_edge::Shelf;
 use fb_text::Text;
 use no_memory::NoMemory;
@@ -32,12 +34,30 @@ pub fn written(alloc: Global, setup: &Setup) -> Reply
     }
 }
 
+/// The setup of a file.
+pub fn ready<F: Shelf>(
+    alloc: Global,
+    name: &str,
+    shelf: &mut F,
+    seen: &mut Seen,
+) -> Result<Setup, Reply>
+    ensures ready { Ready (show name.now) (F.file shelf.old)
+        (Rose (F.faults shelf.old) (F.faults shelf.new)) result }
+    ensures setup { IfOk result
+        (λ setup. IfSome (F.file shelf.old) (λ file. AreSetup setup (file name.now))) }
+{
+    match open_setup(alloc, name, shelf, seen) {
+        Ok(setup) => Ok(setup),
+        Err(reply) => Err(reply),
+    }
+}
+
 /// Does `show`.
 pub fn show<F: Shelf>(alloc: Global, name: &str, shelf: &mut F) -> Reply
     ensures { Comes (show name.now) (F.file shelf.old)
         (Rose (F.faults shelf.old) (F.faults shelf.new)) result }
 {
-    match open_setup(alloc, name, shelf) {
+    match ready(alloc, name, shelf, &mut Seen::nothing(alloc)) {
         Ok(setup) => written(alloc, &setup),
         Err(reply) => reply,
     }

@@ -4,7 +4,7 @@ ghost use Rattle.std.specs.Prelude.{◌≡◌, None, true, IfOk};
 ghost use Rattle.std.specs.List.{list_all};
 ghost use Rattle.generator.specs.Generated.{generated};
 ghost use Rattle.fb_cli.specs.Report.{is_accepted};
-ghost use Rattle.fb_cli.specs.Tally.{tally, tally_output};
+ghost use Rattle.fb_cli.specs.Tally.{counts_of, tally};
 ghost use Rattle.fb_cli.specs.Replies.{Comes, answer_output};
 
 use crate::answers::{Answer, Outcome, Reply};
@@ -28,7 +28,8 @@ fn generated(alloc: Global, seed: u64) -> Result<Setup, NoMemory>
 
 /// The counts over the run of a generated setup.
 fn counts(alloc: Global, seed: u64) -> Result<Answer, NoMemory>
-    ensures { IfOk result (λ answer. answer_output answer ≡ tally_output seed) }
+    ensures { IfOk result (λ answer.
+        answer_output answer ≡ record { status = 0; text = counts_of seed }) }
 {
     let setup = generated(alloc, seed)?;
     let accesses = setup.accesses();

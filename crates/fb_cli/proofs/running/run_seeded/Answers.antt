@@ -1,13 +1,15 @@
-use Rattle.std.proofs.Common.{[], rules}
-use Rattle.fb_cli.proofs.Coming.{run_comes, stop_comes}
+use Rattle.fb_cli.specs.Run.{run_seeded}
+use Rattle.fb_cli.proofs.Coming.{seeded_comes, stops_come}
 use Rattle.fb_cli.proofs.running.run_seeded.Goals as goal
 
 pub returns-in-Ok : goal.returns-in-Ok
 returns-in-Ok g c =
-    run_comes c.args.name.now [] _ (g.F.Shelf.file c.args.shelf.now) _ c.in-Ok.setup c.of.result
-    c.in-Ok.ensures.setup (search rules) (search rules)
+    rw c.of.ensures
+    (seeded_comes c.args.name.now c.args.seed (g.F.Shelf.file c.args.shelf.now) _ c.in-Ok.setup c.play_seed.result
+    c.in-Ok.ensures.ready c.in-Ok.ensures.setup c.play_seed.ensures.output c.play_seed.ensures.run)
 
 pub returns-in-Err : goal.returns-in-Err
 returns-in-Err g c =
-    stop_comes c.args.name.now [] _ (g.F.Shelf.file c.args.shelf.now) _ c.in-Err.reply (search rules)
-    c.in-Err.ensures.refused
+    let command = run_seeded c.args.name.now c.args.seed in
+    stops_come command.opens command.refusal command.prints (g.F.Shelf.file c.args.shelf.now) _ c.in-Err.reply
+    c.in-Err.ensures.ready

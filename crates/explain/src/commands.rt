@@ -1,0 +1,70 @@
+//! The commands of the program: their names, and the words after them.
+
+/// A command of the program.
+#[derive(Clone, Copy)]
+pub enum Command {
+    Check,
+    Show,
+    Run,
+    Race,
+    Replay,
+    Make,
+    Tally,
+    Explain,
+    Help,
+    Version,
+}
+
+/// The names of the commands, in the order in which they are listed.
+pub const NAMES: [&str; 10] = [
+    "check", "show", "run", "race", "replay", "make", "tally", "explain", "help", "version",
+];
+
+impl Command {
+    /// The command of this name.
+    pub fn named(word: &str) -> Option<Command> {
+        match word {
+            "check" => Some(Command::Check),
+            "show" => Some(Command::Show),
+            "run" => Some(Command::Run),
+            "race" => Some(Command::Race),
+            "replay" => Some(Command::Replay),
+            "make" => Some(Command::Make),
+            "tally" => Some(Command::Tally),
+            "explain" => Some(Command::Explain),
+            "help" | "-h" | "--help" => Some(Command::Help),
+            "version" | "--version" => Some(Command::Version),
+            _ => None,
+        }
+    }
+
+    /// The words that ask for the command.
+    pub fn form(self) -> &'static str {
+        match self {
+            Command::Check => "check FILE",
+            Command::Show => "show SETUP",
+            Command::Run => "run SETUP SCHEDULE, or SETUP seed NUMBER",
+            Command::Race => "race SETUP",
+            Command::Replay => "replay SETUP TRACE",
+            Command::Make => "make NUMBER",
+            Command::Tally => "tally NUMBER",
+            Command::Explain => "explain WORDS, those of another command",
+            Command::Help => "help [COMMAND]",
+            Command::Version => "version",
+        }
+    }
+
+    /// The least and the most words after the command's name.
+    pub fn counts(self) -> (usize, usize) {
+        match self {
+            Command::Check | Command::Show | Command::Race | Command::Make | Command::Tally => (
+                1, 1,
+            ),
+            Command::Run => (2, 3),
+            Command::Replay => (2, 2),
+            Command::Explain => (1, 4),
+            Command::Help => (0, 1),
+            Command::Version => (0, 0),
+        }
+    }
+}

@@ -1,0 +1,256 @@
+//! `explain`: why the command of other words is refused.
+
+ghost use Rattle.std.specs.Prelude.{◌≡◌, IfOk, map, string_bytes};
+ghost use Rattle.fb_edge.specs.Outside.{Rose};
+ghost use Rattle.explain.specs.Appends.{Appends};
+ghost use Rattle.fb_cli.specs.Output.{refusal_output};
+ghost use Rattle.fb_cli.specs.Explain.{explained};
+ghost use Rattle.fb_cli.specs.Rows.{command_in, explained_rows, fileless_rows};
+ghost use Rattle.fb_cli.specs.Replies.{ComesTo, IsReady, answer_output};
+
+use crate::answers::{Answer, Outcome, Refusal, Reply, refusal_line};
+use crate::checking::is_book;
+use crate::helping::say;
+use crate::opening::limit_of;
+use crate::role::Role;
+use crate::rows::{
+    alone_is, file_after, file_and_seed_after, files_after, page_after, seed_after, words_after,
+};
+use crate::seen::Seen;
+use crate::{checking, replaying, running, showing};
+use explain::{
+    explain_length, explain_schedule, explain_setup, explain_tables, explain_trace, explain_unread,
+    explain_words,
+};
+use fb_edge::Shelf;
+use fb_text::Text;
+use no_memory::NoMemory;
+use setup_text::read_setup;
+use std::alloc::Global;
+
+#[cfg(test)]
+mod tests;
+
+/// Whether words ask for a command that opens no file: nothing stands against it.
+fn is_fileless(words: &[String]) -> Result<(), Reply>
+    ensures { IsReady (command_in fileless_rows (map string_bytes words.now)) None ⊥ result }
+{
+    if let Some(_) = seed_after("make", words) {
+        return Ok(());
+    }
+    if let Some(_) = seed_after("tally", words) {
+        return Ok(());
+    }
+    if let Some(_) = alone_is("help", words) {
+        return Ok(());
+    }
+    if let Some(_) = alone_is("-h", words) {
+        return Ok(());
+    }
+    if let Some(_) = alone_is("--help", words) {
+        return Ok(());
+    }
+    if let Some(_) = page_after("help", words) {
+        return Ok(());
+    }
+    if let Some(_) = alone_is("version", words) {
+        return Ok(());
+    }
+    if let Some(_) = alone_is("--version", words) {
+        return Ok(());
+    }
+    Err(Reply::Refused(Refusal::NoRow))
+}
+
+/// What stands before the command of words is done: nothing, or the reply with which it stops.
+fn ready<F: Shelf>(
+    alloc: Global,
+    words: &[String],
+    shelf: &mut F,
+    seen: &mut Seen,
+) -> Result<(), Reply>
+    ensures { IsReady (command_in explained_rows (map string_bytes words.now)) (F.file shelf.old)
+        (Rose (F.faults shelf.old) (F.faults shelf.new)) result }
+{
+    if let Some(setup) = file_after("race", words) {
+        return done(running::ready_setup(alloc, setup, shelf, seen));
+    }
+    if let Some(setup) = file_after("check", words) {
+        return done(checking::ready(alloc, setup, shelf, seen));
+    }
+    if let Some(setup) = file_after("show", words) {
+        return done(showing::ready(alloc, setup, shelf, seen));
+    }
+    if let Some((setup, schedule)) = files_after("run", words) {
+        return done(running::ready(alloc, setup, schedule, shelf, seen));
+    }
+    if let Some((setup, _)) = file_and_seed_after("run", words) {
+        return done(running::ready_setup(alloc, setup, shelf, seen));
+    }
+    if let Some((setup, trace)) = files_after("replay", words) {
+        return done(replaying::ready(alloc, setup, trace, shelf, seen));
+    }
+    is_fileless(words)
+}
+
+/// Lets go of what was made ready.
+fn done<X: Drop>(ready: Result<X, Reply>) -> Result<(), Reply> {
+    match ready {
+        Ok(_) => Ok(()),
+        Err(reply) => Err(reply),
+    }
+}
+
+/// The name of the file in a role.
+fn name_of(words: &[String], role: Role) -> &str {
+    let place = match role {
+        Role::Setup => 1,
+        Role::Schedule | Role::Trace => 2usize,
+    };
+    match words.get(place) {
+        Some(word) => word.as_str(),
+        None => "",
+    }
+}
+
+/// Appends why a setup or a text of tables is refused.
+fn explain_first(
+    alloc: Global,
+    words: &[String],
+    bytes: &[u8],
+    text: &mut Text,
+) -> Result<(), NoMemory>
+    ensures { Appends text.old.bytes text.new.bytes }
+{
+    let checks = match words.first() {
+        Some(word) => word.as_str() == "check",
+        None => false,
+    };
+    if checks && bytes.len() < 2_147_483_648 && is_book(bytes) {
+        return explain_tables(alloc, bytes, text);
+    }
+    explain_setup(alloc, bytes, text)
+}
+
+/// Appends why a schedule is refused.
+fn explain_second(alloc: Global, seen: &Seen, text: &mut Text) -> Result<(), NoMemory>
+    ensures { Appends text.old.bytes text.new.bytes }
+{
+    let mut boards = 16;
+    if seen.setup.len() < 2_147_483_648 {
+        if let Ok(setup) = read_setup(alloc, &seen.setup) {
+            boards = setup.boards().len() as u8;
+        }
+    }
+    explain_schedule(alloc, &seen.other, boards, text)
+}
+
+/// Appends why files are refused.
+fn explain_files(
+    alloc: Global,
+    words: &[String],
+    seen: &Seen,
+    outcome: Outcome,
+    text: &mut Text,
+) -> Result<(), NoMemory>
+    ensures { Appends text.old.bytes text.new.bytes }
+{
+    match (outcome, seen.last) {
+        (Outcome::TooLong, role) => {
+            explain_length(
+                alloc,
+                name_of(words, role),
+                seen.length,
+                limit_of(role),
+                text,
+            )
+        }
+        (Outcome::Malformed, Role::Schedule) => explain_second(alloc, seen, text),
+        (_, Role::Trace) => explain_trace(alloc, &seen.setup, &seen.other, text),
+        (_, Role::Setup | Role::Schedule) => explain_first(alloc, words, &seen.setup, text),
+    }
+}
+
+/// An answer with which a command stopped, and its explanation.
+fn explained_answer(
+    alloc: Global,
+    words: &[String],
+    seen: &Seen,
+    answer: Answer,
+) -> Result<Answer, NoMemory>
+    ensures status { IfOk result
+        (λ more. (answer_output more).status ≡ (answer_output answer).status) }
+    ensures text { IfOk result
+        (λ more. Appends (answer_output answer).text (answer_output more).text) }
+{
+    match answer {
+        Answer::Said { outcome, text } => {
+            let mut text = text;
+            explain_files(alloc, words, seen, outcome, &mut text)?;
+            Ok(Answer::Said { outcome, text })
+        }
+        other => Ok(other),
+    }
+}
+
+/// The line of a refusal.
+fn line_of(alloc: Global, refusal: Refusal) -> Result<Text, NoMemory>
+    ensures { IfOk result (λ text. text.bytes ≡ (refusal_output refusal).text) }
+{
+    let line = refusal_line(refusal);
+    let mut text = Text::new(alloc);
+    text.reserve(line.len())?;
+    text.push(line);
+    Ok(text)
+}
+
+/// That words ask for no command, and why.
+fn explained_words(alloc: Global, words: &[String]) -> Result<Text, NoMemory>
+    ensures { IfOk result (λ text. Appends (refusal_output Refusal.NoRow).text text.bytes) }
+{
+    let mut text = line_of(alloc, Refusal::NoRow)?;
+    explain_words(alloc, words, &mut text)?;
+    Ok(text)
+}
+
+/// That a file was not read, and what may be the matter.
+fn explained_unread(alloc: Global, words: &[String], role: Role) -> Result<Text, NoMemory>
+    ensures { IfOk result (λ text. Appends (refusal_output (Refusal.Unread role)).text text.bytes) }
+{
+    let called = match role {
+        Role::Setup => "the setup",
+        Role::Schedule => "the schedule",
+        Role::Trace => "the trace",
+    };
+    let mut text = line_of(alloc, Refusal::Unread(role))?;
+    explain_unread(alloc, name_of(words, role), called, &mut text)?;
+    Ok(text)
+}
+
+/// Does `explain` of these words.
+pub fn explain<F: Shelf>(alloc: Global, words: &[String], shelf: &mut F) -> Reply
+    ensures { ComesTo (explained (command_in explained_rows (map string_bytes words.now)))
+        (F.file shelf.old) (Rose (F.faults shelf.old) (F.faults shelf.new)) result }
+{
+    let mut seen = Seen::all(alloc);
+    match ready(alloc, words, shelf, &mut seen) {
+        Ok(()) => say(alloc, "no fault\n"),
+        Err(Reply::Answered(answer)) => Reply::of(explained_answer(alloc, words, &seen, answer)),
+        Err(Reply::Refused(Refusal::NoRow)) => match explained_words(alloc, words) {
+            Ok(text) => Reply::Explained {
+                refusal: Refusal::NoRow,
+                text,
+            },
+            Err(NoMemory) => Reply::Refused(Refusal::NoRow),
+        },
+        Err(Reply::Refused(Refusal::Unread(role))) => match explained_unread(alloc, words, role) {
+            Ok(text) => Reply::Explained {
+                refusal: Refusal::Unread(role),
+                text,
+            },
+            Err(NoMemory) => Reply::Refused(Refusal::NoMemory),
+        },
+        Err(Reply::Refused(Refusal::NoMemory)) => Reply::Refused(Refusal::NoMemory),
+        Err(Reply::Explained { refusal, text }) => Reply::Explained { refusal, text },
+    }
+}
