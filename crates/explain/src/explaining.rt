@@ -4,7 +4,7 @@
 //! memory lacks or where nothing is refused.
 
 ghost use Rattle.std.specs.Prelude.{◌≡◌, OnErr};
-ghost use Rattle.explain.specs.Appends.{Appends};
+ghost use Rattle.explain.specs.Extends.{Extends};
 
 use crate::files::{length_reason, unread_reason};
 use crate::help::words_reason;
@@ -16,7 +16,7 @@ use std::alloc::Global;
 
 /// Appends an explanation, where it was made.
 fn append(text: &mut Text, reason: Result<Text, NoMemory>) -> Result<(), NoMemory>
-    ensures appends { Appends text.old.bytes text.new.bytes }
+    ensures appends { Extends text.old.bytes text.new.bytes }
     ensures none { OnErr result (text.new.bytes ≡ text.old.bytes) }
 {
     let reason = reason?;
@@ -27,7 +27,7 @@ fn append(text: &mut Text, reason: Result<Text, NoMemory>) -> Result<(), NoMemor
 
 /// Appends why a setup is refused: the first fault of its text, or the faults of its tables.
 pub fn explain_setup(alloc: Global, bytes: &[u8], text: &mut Text) -> Result<(), NoMemory>
-    ensures appends { Appends text.old.bytes text.new.bytes }
+    ensures appends { Extends text.old.bytes text.new.bytes }
     ensures none { OnErr result (text.new.bytes ≡ text.old.bytes) }
 {
     append(text, setup_reason(alloc, bytes))
@@ -35,7 +35,7 @@ pub fn explain_setup(alloc: Global, bytes: &[u8], text: &mut Text) -> Result<(),
 
 /// Appends why a text of tables is refused: its first fault, or the faults of its tables.
 pub fn explain_tables(alloc: Global, bytes: &[u8], text: &mut Text) -> Result<(), NoMemory>
-    ensures appends { Appends text.old.bytes text.new.bytes }
+    ensures appends { Extends text.old.bytes text.new.bytes }
     ensures none { OnErr result (text.new.bytes ≡ text.old.bytes) }
 {
     append(text, tables_reason(alloc, bytes))
@@ -48,7 +48,7 @@ pub fn explain_schedule(
     boards: u8,
     text: &mut Text,
 ) -> Result<(), NoMemory>
-    ensures appends { Appends text.old.bytes text.new.bytes }
+    ensures appends { Extends text.old.bytes text.new.bytes }
     ensures none { OnErr result (text.new.bytes ≡ text.old.bytes) }
 {
     append(text, schedule_reason(alloc, bytes, boards))
@@ -61,7 +61,7 @@ pub fn explain_trace(
     trace: &[u8],
     text: &mut Text,
 ) -> Result<(), NoMemory>
-    ensures appends { Appends text.old.bytes text.new.bytes }
+    ensures appends { Extends text.old.bytes text.new.bytes }
     ensures none { OnErr result (text.new.bytes ≡ text.old.bytes) }
 {
     append(text, trace_reason(alloc, bytes, trace))
@@ -69,7 +69,7 @@ pub fn explain_trace(
 
 /// Appends why words ask for no command.
 pub fn explain_words(alloc: Global, words: &[String], text: &mut Text) -> Result<(), NoMemory>
-    ensures appends { Appends text.old.bytes text.new.bytes }
+    ensures appends { Extends text.old.bytes text.new.bytes }
     ensures none { OnErr result (text.new.bytes ≡ text.old.bytes) }
 {
     append(text, words_reason(alloc, words))
@@ -82,7 +82,7 @@ pub fn explain_unread(
     role: &str,
     text: &mut Text,
 ) -> Result<(), NoMemory>
-    ensures appends { Appends text.old.bytes text.new.bytes }
+    ensures appends { Extends text.old.bytes text.new.bytes }
     ensures none { OnErr result (text.new.bytes ≡ text.old.bytes) }
 {
     append(text, unread_reason(alloc, name, role))
@@ -96,7 +96,7 @@ pub fn explain_length(
     limit: u64,
     text: &mut Text,
 ) -> Result<(), NoMemory>
-    ensures appends { Appends text.old.bytes text.new.bytes }
+    ensures appends { Extends text.old.bytes text.new.bytes }
     ensures none { OnErr result (text.new.bytes ≡ text.old.bytes) }
 {
     append(text, length_reason(alloc, name, length, limit))

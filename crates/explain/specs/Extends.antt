@@ -2,6 +2,6 @@
 use Rattle.std.specs.Prelude.{◌≡◌, ℕ, List, ◌++◌}
 
 -- The new bytes are the old bytes, and more after them.
-pub record Appends (old new : List ℕ) : Type 0 where
+pub record Extends (old new : List ℕ) : Type 0 where
   pub more : List ℕ
   pub whole : new ≡ old ++ more
