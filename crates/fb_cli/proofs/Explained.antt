@@ -3,7 +3,7 @@ use Rattle.std.proofs.Common.{◌≡◌, ℕ, List, ◌∷◌, [], ◌++◌, Opt
 use Rattle.std.specs.Prelude.{IfSome, IfOk, Result, codes}
 use Rattle.std.specs.Option.{option_map_or}
 use Rattle.std.specs.Result.{result_ok}
-use Rattle.explain.specs.Appends.{Appends}
+use Rattle.explain.specs.Extends.{Extends}
 use Rattle.fb_text.specs.Written.{Written}
 use Rattle.fb_cli.specs.declared.answers.Answer.{Answer}
 use Rattle.fb_cli.specs.declared.answers.Refusal.TheVariants.{NoRow, Unread, NoMemory}
@@ -13,8 +13,15 @@ use Rattle.fb_cli.specs.declared.role.Role.{Role}
 use Rattle.fb_cli.specs.Output.{Output, Files, Refusal, refusal_output}
 use Rattle.fb_cli.specs.Command.{Command, Follows, Found, none, found, known, printing}
 use Rattle.fb_cli.specs.Explain.{explained}
-use Rattle.fb_cli.specs.Replies.{Comes, ComesTo, IsReady, answer_output}
+use Rattle.fb_cli.specs.Replies.{Comes, ComesTo, IsReady, Ready, answer_output, let_go}
 use Rattle.fb_cli.proofs.Coming.{on_some}
+
+-- A command stays ready when what was made ready is let go.
+pub let_go_ready :
+    {X : Type 0} (command : Command) (files : Option Files) (A : Type 0) (ready : Result X Reply)
+    → Ready command files A ready → Ready command files A (let_go ready)
+let_go_ready command files A (Ok x) free = free
+let_go_ready command files A (Err reply) stops = stops
 
 -- What is printed where nothing is refused.
 abbrev pub no_fault : List ℕ
@@ -28,7 +35,7 @@ free_comes (none Tells) files A reply ready came = absurd cc
 free_comes (found command) files A (Answered a) ready came =
     on_some (known command.opens files)
     (λ bytes_of is.
-    subst (λ r. Follows Appends (λ text. text ≡ no_fault) r (answer_output a)) (sym is) came)
+    subst (λ r. Follows Extends (λ text. text ≡ no_fault) r (answer_output a)) (sym is) came)
     ready
 free_comes (found command) files A (Refused NoRow) ready came = absurd came
 free_comes (found command) files A (Refused (Unread role)) ready came = absurd came.0
@@ -41,24 +48,24 @@ free_comes (found command) files A (Explained NoMemory text) ready came = came
 pub answer_more :
     {X E : Type 0} (asked : Found) (files : Option Files) (A : Type 0) (a : Answer) (came : Result Answer E)
     → IsReady {X} asked files A (Err (Answered a)) → IfOk came (λ m. (answer_output m).status ≡ (answer_output a).status)
-    → IfOk came (λ m. Appends (answer_output a).text (answer_output m).text)
+    → IfOk came (λ m. Extends (answer_output a).text (answer_output m).text)
     → ComesTo (explained asked) files A (option_map_or Answered (result_ok came) (Refused NoMemory))
 answer_more (none Tells) files A a came ready same more = absurd cc
 answer_more (found command) files A a (Ok m) ready same more =
     on_some (known command.opens files)
     (λ bytes_of is.
-    subst (λ r. Follows Appends (λ text. text ≡ no_fault) r (answer_output m)) (sym is) (same, more))
+    subst (λ r. Follows Extends (λ text. text ≡ no_fault) r (answer_output m)) (sym is) (same, more))
     ready
 answer_more (found command) files A a (Err e) ready same more = refl
 
 -- A text is itself with nothing after it.
-pub appends_none : (text : List ℕ) → Appends text text
+pub appends_none : (text : List ℕ) → Extends text text
 appends_none text = record { more = []; whole = sym (append-nil text) }
 
 -- Words ask for no command.
 pub words_more :
     {X : Type 0} (asked : Found) (files : Option Files) (A : Type 0) (text : Written)
-    → IsReady {X} asked files A (Err (Refused NoRow)) → Appends (refusal_output NoRow).text text.bytes
+    → IsReady {X} asked files A (Err (Refused NoRow)) → Extends (refusal_output NoRow).text text.bytes
     → ComesTo (explained asked) files A (Explained NoRow text)
 words_more (none Tells) files A text ready more = (refl, more)
 words_more (found command) files A text ready more = absurd ready
@@ -73,7 +80,7 @@ words_alone (found command) files A ready = absurd ready
 -- A file was not read.
 pub unread_more :
     {X : Type 0} (asked : Found) (files : Option Files) (A : Type 0) (role : Role) (text : Written)
-    → IsReady {X} asked files A (Err (Refused (Unread role))) → Appends (refusal_output (Unread role)).text text.bytes
+    → IsReady {X} asked files A (Err (Refused (Unread role))) → Extends (refusal_output (Unread role)).text text.bytes
     → ComesTo (explained asked) files A (Explained (Unread role) text)
 unread_more (none Tells) files A role text ready more = absurd cc
 unread_more (found command) files A role text ready more = (ready, more)

@@ -82,6 +82,11 @@ abbrev pub IsReady : {X : Type 0} → Found → Option Files → Type 0 → Resu
 IsReady (none Tells) files shelf_rose result = result ≡ Err (Reply.Refused Refusal.NoRow)
 IsReady (found command) files shelf_rose result = Ready command files shelf_rose result
 
+-- What stands against a command, when what was made ready for it was let go.
+abbrev pub let_go : {X : Type 0} → Result X Reply → Result (Unit {0}) Reply
+let_go (Ok x) = Ok tt
+let_go (Err reply) = Err reply
+
 -- The output tells of this fault.
 abbrev pub TellsFault : Role → SetupFault → Output → Type 0
 TellsFault role (SetupFault.Bad line kind) o =

@@ -2,11 +2,11 @@
 
 ghost use Rattle.std.specs.Prelude.{◌≡◌, IfOk, map, string_bytes};
 ghost use Rattle.fb_edge.specs.Outside.{Rose};
-ghost use Rattle.explain.specs.Appends.{Appends};
+ghost use Rattle.explain.specs.Extends.{Extends};
 ghost use Rattle.fb_cli.specs.Output.{refusal_output};
 ghost use Rattle.fb_cli.specs.Explain.{explained};
 ghost use Rattle.fb_cli.specs.Rows.{command_in, explained_rows, fileless_rows};
-ghost use Rattle.fb_cli.specs.Replies.{ComesTo, IsReady, answer_output};
+ghost use Rattle.fb_cli.specs.Replies.{ComesTo, IsReady, answer_output, let_go};
 
 use crate::answers::{Answer, Outcome, Refusal, Reply, refusal_line};
 use crate::checking::is_book;
@@ -94,7 +94,9 @@ fn ready<F: Shelf>(
 }
 
 /// Lets go of what was made ready.
-fn done<X: Drop>(ready: Result<X, Reply>) -> Result<(), Reply> {
+fn done<X: Drop>(ready: Result<X, Reply>) -> Result<(), Reply>
+    ensures { result ≡ let_go ready }
+{
     match ready {
         Ok(_) => Ok(()),
         Err(reply) => Err(reply),
@@ -120,7 +122,7 @@ fn explain_first(
     bytes: &[u8],
     text: &mut Text,
 ) -> Result<(), NoMemory>
-    ensures { Appends text.old.bytes text.new.bytes }
+    ensures { Extends text.old.bytes text.new.bytes }
 {
     let checks = match words.first() {
         Some(word) => word.as_str() == "check",
@@ -134,7 +136,7 @@ fn explain_first(
 
 /// Appends why a schedule is refused.
 fn explain_second(alloc: Global, seen: &Seen, text: &mut Text) -> Result<(), NoMemory>
-    ensures { Appends text.old.bytes text.new.bytes }
+    ensures { Extends text.old.bytes text.new.bytes }
 {
     let mut boards = 16;
     if seen.setup.len() < 2_147_483_648 {
@@ -153,7 +155,7 @@ fn explain_files(
     outcome: Outcome,
     text: &mut Text,
 ) -> Result<(), NoMemory>
-    ensures { Appends text.old.bytes text.new.bytes }
+    ensures { Extends text.old.bytes text.new.bytes }
 {
     match (outcome, seen.last) {
         (Outcome::TooLong, role) => {
@@ -181,7 +183,7 @@ fn explained_answer(
     ensures status { IfOk result
         (λ more. (answer_output more).status ≡ (answer_output answer).status) }
     ensures text { IfOk result
-        (λ more. Appends (answer_output answer).text (answer_output more).text) }
+        (λ more. Extends (answer_output answer).text (answer_output more).text) }
 {
     match answer {
         Answer::Said { outcome, text } => {
@@ -206,7 +208,7 @@ fn line_of(alloc: Global, refusal: Refusal) -> Result<Text, NoMemory>
 
 /// That words ask for no command, and why.
 fn explained_words(alloc: Global, words: &[String]) -> Result<Text, NoMemory>
-    ensures { IfOk result (λ text. Appends (refusal_output Refusal.NoRow).text text.bytes) }
+    ensures { IfOk result (λ text. Extends (refusal_output Refusal.NoRow).text text.bytes) }
 {
     let mut text = line_of(alloc, Refusal::NoRow)?;
     explain_words(alloc, words, &mut text)?;
@@ -215,7 +217,7 @@ fn explained_words(alloc: Global, words: &[String]) -> Result<Text, NoMemory>
 
 /// That a file was not read, and what may be the matter.
 fn explained_unread(alloc: Global, words: &[String], role: Role) -> Result<Text, NoMemory>
-    ensures { IfOk result (λ text. Appends (refusal_output (Refusal.Unread role)).text text.bytes) }
+    ensures { IfOk result (λ text. Extends (refusal_output (Refusal.Unread role)).text text.bytes) }
 {
     let called = match role {
         Role::Setup => "the setup",

@@ -13,7 +13,7 @@ const FILES: [(&str, &str); 5] = [
     ("B", "memory 1\nboards\n"),
     (
         "R",
-        "table un\nI read = E rd\nI write = I uwr\nI pass = I\nI flush = I\nend\n",
+        "table un\nI read = I urd\nI write = I uwr\nI pass = I\nend\n",
     ),
 ];
 
@@ -48,7 +48,7 @@ fn what_is_refused_is_explained(rt: HostRuntime) -> Result<(), Fail> {
         ("explain check B", "fault setup line 2 word\n", 3),
         (
             "explain check R",
-            "table un: refused 1\nnot-permitted I read 1 E rd\n",
+            "table un: refused 1\nmissing I flush\n",
             1,
         ),
         ("explain show B", "fault setup line 2 word\n", 3),
