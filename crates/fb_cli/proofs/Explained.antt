@@ -47,7 +47,8 @@ free_comes (found command) files A (Explained NoMemory text) ready came = came
 -- The command stops with an answer, to which more is added.
 pub answer_more :
     {X E : Type 0} (asked : Found) (files : Option Files) (A : Type 0) (a : Answer) (came : Result Answer E)
-    → IsReady {X} asked files A (Err (Answered a)) → IfOk came (λ m. (answer_output m).status ≡ (answer_output a).status)
+    → IsReady {X} asked files A (Err (Answered a))
+    → IfOk came (λ m. (answer_output m).status ≡ (answer_output a).status)
     → IfOk came (λ m. Extends (answer_output a).text (answer_output m).text)
     → ComesTo (explained asked) files A (option_map_or Answered (result_ok came) (Refused NoMemory))
 answer_more (none Tells) files A a came ready same more = absurd cc
@@ -101,6 +102,7 @@ memory_short (found command) files A ready = refl
 -- Nothing is explained before `explain` does so.
 pub explained_alone :
     {X : Type 0} (asked : Found) (files : Option Files) (A : Type 0) (refusal : Refusal) (text : Written)
-    → IsReady {X} asked files A (Err (Explained refusal text)) → ComesTo (explained asked) files A (Explained refusal text)
+    → IsReady {X} asked files A (Err (Explained refusal text))
+    → ComesTo (explained asked) files A (Explained refusal text)
 explained_alone (none Tells) files A refusal text ready = absurd cc
 explained_alone (found command) files A refusal text ready = absurd ready

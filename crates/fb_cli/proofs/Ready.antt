@@ -86,7 +86,8 @@ pub turns_judged :
     → turns_refusal setup bytes ≡ if_accepted setup.tables None
 turns_judged setup bytes turns are =
     is_within roles.Schedule bytes
-    (on_read roles.Schedule (λ t. if_accepted setup.tables None) (schedule_at (length setup.boards) (unread bytes))) are.0
+    (on_read roles.Schedule (λ t. if_accepted setup.tables None)
+    (schedule_at (length setup.boards) (unread bytes))) are.0
     ∙ ap (on_read roles.Schedule (λ (t : List ℕ). if_accepted setup.tables None)) are.1
 
 -- A run with a schedule.

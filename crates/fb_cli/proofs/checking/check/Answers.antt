@@ -6,7 +6,8 @@ use Rattle.fb_cli.proofs.checking.check.Goals as goal
 pub returns-in-Ok : goal.returns-in-Ok
 returns-in-Ok g c =
     let command = check c.args.name.now in
-    answer_comes command.opens command.refusal command.prints (g.F.Shelf.file c.args.shelf.now) _ _ c.in-Ok.ensures.ready
+    answer_comes command.opens command.refusal command.prints (g.F.Shelf.file c.args.shelf.now) _ _
+    c.in-Ok.ensures.ready
     refl c.in-Ok.ensures.report
 
 pub returns-in-Err : goal.returns-in-Err
