@@ -11,15 +11,8 @@ use Rattle.fb_cli.specs.declared.answers.Reply.TheVariants.{Answered, Refused, E
 use Rattle.fb_cli.specs.Output.{Files, Refusal, refusal_output}
 use Rattle.fb_cli.specs.Command.{Command, Follows, Found, none, found, known, printing}
 use Rattle.fb_cli.specs.Explain.{explained}
-use Rattle.fb_cli.specs.Replies.{Comes, ComesTo, IsReady, Ready, answer_output, let_go}
+use Rattle.fb_cli.specs.Replies.{Comes, ComesTo, IsReady, answer_output}
 use Rattle.fb_cli.proofs.Coming.{on_some}
-
--- A command stays ready when what was made ready is let go.
-pub let_go_ready :
-    {X : Type 0} (command : Command) (files : Option Files) (A : Type 0) (ready : Result X Reply)
-    → Ready command files A ready → Ready command files A (let_go ready)
-let_go_ready command files A (Ok x) free = free
-let_go_ready command files A (Err reply) stops = stops
 
 -- What is printed where nothing is refused.
 abbrev pub no_fault : List ℕ
