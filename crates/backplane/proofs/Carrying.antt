@@ -85,12 +85,12 @@ words_seen :
     → source_words (seen parts.rack parts.memory) master line source ≡ source_words c master line source
 words_seen setup c parts shows master line Nobody =
     λ i.
-    source_words (record { memory = []; rows = shows.rack.rows i; boards = []; phase = c.phase }) master line Nobody
+    source_words (record { memory = []; rows = shows.rack.rows i; boards = []; phase = c.phase; arbitration = c.arbitration }) master line Nobody
 words_seen setup c parts shows master line Memory =
-    λ i. source_words (record { memory = shows.memory i; rows = []; boards = []; phase = c.phase }) master line Memory
+    λ i. source_words (record { memory = shows.memory i; rows = []; boards = []; phase = c.phase; arbitration = c.arbitration }) master line Memory
 words_seen setup c parts shows master line (Board board) =
     λ i.
-    source_words (record { memory = []; rows = shows.rack.rows i; boards = []; phase = c.phase }) master line
+    source_words (record { memory = []; rows = shows.rack.rows i; boards = []; phase = c.phase; arbitration = c.arbitration }) master line
     (Board board)
 
 -- What the data phase is to say, as the parts have it.

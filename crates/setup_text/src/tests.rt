@@ -38,6 +38,21 @@ fn setups_with_a_fault(rt: HostRuntime) -> Result<(), Fail> {
         ("mem 1\n", 1, SetupKind::UnknownWord),
         ("memory 1\nword 4 1\n", 2, SetupKind::Address),
         ("memory 1\nword 3 4294967296\n", 2, SetupKind::Number),
+        ("memory 1\narbiter\n", 2, SetupKind::UnknownWord),
+        ("memory 1\narbiter round\n", 2, SetupKind::UnknownWord),
+        ("memory 1\narbiter fair 1\n", 2, SetupKind::UnknownWord),
+        (
+            "memory 1\narbiter fair\narbiter fair\n",
+            3,
+            SetupKind::UnknownWord,
+        ),
+        (
+            "memory 1\nword 0 0\narbiter fair\n",
+            3,
+            SetupKind::UnknownWord,
+        ),
+        ("arbiter fair\n", 1, SetupKind::UnknownWord),
+        ("memory 1\narbiter fair\n", 3, SetupKind::NoEnd),
         (
             "memory 1\ntable un\nI read = I urd\nI read = I urd\n",
             4,
@@ -83,7 +98,7 @@ fn setups_with_a_fault(rt: HostRuntime) -> Result<(), Fail> {
             SetupKind::Number,
         ),
         (
-            "memory 1\ntable x\nend\nboard 1 number 256 table x plain choose first\n",
+            "memory 1\ntable x\nend\nboard 1 number 1024 table x plain choose first\n",
             4,
             SetupKind::Number,
         ),
