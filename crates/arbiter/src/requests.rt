@@ -34,12 +34,17 @@ impl Model for Requests {
 
     ghost Value = { Requests };
 
-    ghost view = { λ r. record { numbers = r.numbers.items; fair = r.fair; raised = r.raised; served = r.served } };
+    ghost view = { λ r. record {
+      numbers = r.numbers.items;
+      fair = r.fair;
+      raised = r.raised;
+      served = r.served;
+    } };
 
     ghost invariant = { λ r. IsContest r.numbers.items };
 }
 
-/// Adds a number after the first ones of a list, if it competes, and tells how many there are then.
+/// Adds a number after the first ones of a list, if it competes, and returns how many it then has.
 fn add_if(competes: bool, numbers: &mut [u16; 16], count: usize, number: u16) -> usize
     requires { count < 16 }
     ensures numbers { take result numbers.new
@@ -111,7 +116,7 @@ fn waiting(raised: &[bool; 16], served: &[bool; 16]) -> [bool; 16]
     waiting
 }
 
-/// Settles a contest whose looks nobody counts.
+/// Settles a contest without counting the looks.
 fn settled<L: Ledger>(blank: Blank, numbers: &[u16]) -> Settled
     requires name { blank.name ≡ L.name }
     requires parts { blank.parts ≡ L.parts }

@@ -296,7 +296,7 @@ some-competes requests (suc k) low high h e = go (requests.fair && does_any_wait
         both_ways (does_any_wait requests) none any
     go false w e = some-number requests.numbers requests.raised k high (rw same at h) e
 
--- What the arbiter tells of a contest is the model's grant.
+-- The arbiter's answer to a contest is the model's grant.
 pub grant-told :
     (setup : Setup) (c : Configuration) (p : Parts) (b winner lines rounds : ℕ) → PartsShow setup c p
     → PartsFit setup c

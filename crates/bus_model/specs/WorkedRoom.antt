@@ -107,7 +107,7 @@ victim_flush_end = record {
   arbitration = ByNumber;
 }
 
--- A request and a grant are given up by an access that needs no bus any more.
+-- A request and a grant are given up by an access that no longer needs the bus.
 abbrev pub given_up : Setup
 given_up = record {
   memory = 0 ∷ 0 ∷ 0 ∷ 0 ∷ 0 ∷ 0 ∷ 0 ∷ 0 ∷ [];

@@ -13,8 +13,8 @@ ghost use Rattle.bus_model.specs.WorkedRoom.{write_through_word, write_through_w
 ghost use Rattle.bus_model.specs.WorkedFair.{passed_over, passed_over_schedule, passed_over_events, passed_over_end, starving, starving_schedule, starving_events, starving_end};
 ghost use Rattle.bus_model.specs.WorkedCopies.{clean_victim, clean_victim_schedule, clean_victim_events, clean_victim_end, captured, captured_schedule, captured_events, captured_end};
 
-/// Each small run is what the turns of its schedule do, and its setup is one of which the laws
-/// speak.
+/// Each small run is what the turns of its schedule do, and its setup is one that the laws
+/// cover.
 pub fn small_runs_are_played()
     ensures intervention { Plays intervention intervention_schedule intervention_events
         intervention_end }

@@ -166,7 +166,7 @@ fn print_all_copies<K: Sink>(
     Ok(())
 }
 
-/// Prints how a run ended through a page.
+/// Prints through a page how a run ended.
 fn print_ending_through<K: Sink>(
     machine: &Machine,
     page: &mut Page,
@@ -224,7 +224,7 @@ fn print_journal<K: Sink>(
     print_events(machine.journal(), page, sink, line)
 }
 
-/// Prints the line that stands after the events.
+/// Prints the line that comes after the events.
 fn print_end<K: Sink>(page: &mut Page, sink: &mut K, line: &mut Text) -> Result<(), PutFailed>
     requires ready { IsReady line.old }
     ensures paged { Paged (K.faults sink.old) (K.faults sink.new) (K.taken sink.old)

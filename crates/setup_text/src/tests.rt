@@ -25,7 +25,7 @@ fn bad(line: u32, kind: SetupKind) -> Result<usize, SetupFault> {
 }
 
 #[test]
-fn setups_with_a_fault(rt: HostRuntime) -> Result<(), Fail> {
+fn memory_with_a_fault(rt: HostRuntime) -> Result<(), Fail> {
     let rows = [
         ("", 1, SetupKind::NoEnd),
         ("memory 4097\n", 1, limit(LimitOf::Lines, 4097)),
@@ -38,6 +38,17 @@ fn setups_with_a_fault(rt: HostRuntime) -> Result<(), Fail> {
         ("mem 1\n", 1, SetupKind::UnknownWord),
         ("memory 1\nword 4 1\n", 2, SetupKind::Address),
         ("memory 1\nword 3 4294967296\n", 2, SetupKind::Number),
+    ];
+    for (text, line, kind) in rows {
+        let read = read_as_setup(rt.alloc(), text)?;
+        assert_eq!(rt; read, Err(SetupFault::Bad { line, kind }), "{text}");
+    }
+    Ok(())
+}
+
+#[test]
+fn arbiter_lines_with_a_fault(rt: HostRuntime) -> Result<(), Fail> {
+    let rows = [
         ("memory 1\narbiter\n", 2, SetupKind::UnknownWord),
         ("memory 1\narbiter round\n", 2, SetupKind::UnknownWord),
         ("memory 1\narbiter fair 1\n", 2, SetupKind::UnknownWord),
@@ -53,6 +64,17 @@ fn setups_with_a_fault(rt: HostRuntime) -> Result<(), Fail> {
         ),
         ("arbiter fair\n", 1, SetupKind::UnknownWord),
         ("memory 1\narbiter fair\n", 3, SetupKind::NoEnd),
+    ];
+    for (text, line, kind) in rows {
+        let read = read_as_setup(rt.alloc(), text)?;
+        assert_eq!(rt; read, Err(SetupFault::Bad { line, kind }), "{text}");
+    }
+    Ok(())
+}
+
+#[test]
+fn tables_with_a_fault(rt: HostRuntime) -> Result<(), Fail> {
+    let rows = [
         (
             "memory 1\ntable un\nI read = I urd\nI read = I urd\n",
             4,
@@ -82,11 +104,17 @@ fn setups_with_a_fault(rt: HostRuntime) -> Result<(), Fail> {
         ),
         ("memory 1\ntable x\nend\n", 4, SetupKind::NoEnd),
         ("memory 1\ntable x\n", 3, SetupKind::NoEnd),
-        (
-            "memory 1\ntable x\nI read = S rd\nend\nboard 1 number 5 table x plain choose first\n",
-            5,
-            SetupKind::NoFrames,
-        ),
+    ];
+    for (text, line, kind) in rows {
+        let read = read_as_setup(rt.alloc(), text)?;
+        assert_eq!(rt; read, Err(SetupFault::Bad { line, kind }), "{text}");
+    }
+    Ok(())
+}
+
+#[test]
+fn numbers_of_boards_with_a_fault(rt: HostRuntime) -> Result<(), Fail> {
+    let rows = [
         (
             "memory 1\ntable x\nend\nboard 2 number 5 table x plain choose first\n",
             4,
@@ -103,6 +131,33 @@ fn setups_with_a_fault(rt: HostRuntime) -> Result<(), Fail> {
             SetupKind::Number,
         ),
         (
+            "memory 1\ntable x\nend\nboard 1 number 5 table x cached 257 1 choose first\n",
+            4,
+            SetupKind::Number,
+        ),
+        (
+            "memory 1\ntable x\nend\n\
+             board 1 number 5 table x plain choose seed 18446744073709551616\n",
+            4,
+            SetupKind::Number,
+        ),
+    ];
+    for (text, line, kind) in rows {
+        let read = read_as_setup(rt.alloc(), text)?;
+        assert_eq!(rt; read, Err(SetupFault::Bad { line, kind }), "{text}");
+    }
+    Ok(())
+}
+
+#[test]
+fn boards_with_a_fault(rt: HostRuntime) -> Result<(), Fail> {
+    let rows = [
+        (
+            "memory 1\ntable x\nI read = S rd\nend\nboard 1 number 5 table x plain choose first\n",
+            5,
+            SetupKind::NoFrames,
+        ),
+        (
             "memory 1\ntable x\nend\nboard 1 number 5 table y plain choose first\n",
             4,
             SetupKind::NoTable,
@@ -113,22 +168,13 @@ fn setups_with_a_fault(rt: HostRuntime) -> Result<(), Fail> {
             limit(LimitOf::Frames, 272),
         ),
         (
-            "memory 1\ntable x\nend\nboard 1 number 5 table x cached 257 1 choose first\n",
-            4,
-            SetupKind::Number,
-        ),
-        (
-            "memory 1\ntable x\nend\nboard 1 number 5 table x plain choose seed 18446744073709551616\n",
-            4,
-            SetupKind::Number,
-        ),
-        (
             "memory 1\ntable x\nend\nboard 1 number 5 table x plain choose last\n",
             4,
             SetupKind::UnknownWord,
         ),
         (
-            "memory 1\ntable x\nend\nboard 1 number 5 table x plain choose first\nboard 2 number 5 table x plain choose first\n",
+            "memory 1\ntable x\nend\nboard 1 number 5 table x plain choose first\n\
+             board 2 number 5 table x plain choose first\n",
             5,
             SetupKind::TwiceNumber,
         ),
