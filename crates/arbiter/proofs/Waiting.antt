@@ -22,7 +22,8 @@ pub waiting_more :
     → slice_set marks i mark ≡ take (i + 1) (waiting raised served) ++ drop (i + 1) raised
 waiting_more raised served i marks mark h k e f = rw (e, f) (next_mark raised served i h k)
 
-pub length-waiting : (raised served : List Bool) → length served ≡ length raised → length (waiting raised served) ≡ length raised
+pub length-waiting :
+    (raised served : List Bool) → length served ≡ length raised → length (waiting raised served) ≡ length raised
 length-waiting [] served e = refl
 length-waiting (r ∷ raised) [] e = absurd (omega (arith, e))
 length-waiting (r ∷ raised) (s ∷ served) e = ap suc (length-waiting raised served (omega (arith, e)))

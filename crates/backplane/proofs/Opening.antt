@@ -210,7 +210,8 @@ opening-shown setup numbers fair same few = go setup.fair same
 
 -- The parts of a setup show its opening.
 pub parts-open :
-    (setup : Setup) (p : Parts) (tables : List Table) (words numbers : List ℕ) (fair : Bool) → WellFormed setup → fair ≡ setup.fair
+    (setup : Setup) (p : Parts) (tables : List Table) (words numbers : List ℕ) (fair : Bool) → WellFormed setup
+    → fair ≡ setup.fair
     → tables ≡ setup.tables → p.rack ≡ empty_rack tables setup.boards → words ≡ setup.memory → p.memory ≡ words
     → numbers ≡ map (λ (spec : BoardSpec). spec.number) setup.boards → p.requests ≡ nobody_raised numbers fair fair
     → p.places.items ≡ map (λ (spec : BoardSpec). 0) setup.boards → p.phase ≡ IdlePhase

@@ -11,7 +11,9 @@ use Rattle.backplane.specs.Parts.{PartsShow}
 module _ (setup : Setup) (c : Configuration) (parts : Parts) (shows : PartsShow setup c parts) where
   pub number_shown : (board : ℕ) → number_of (setup_of parts.rack) board ≡ number_of setup board
   number_shown board =
-      λ i. number_of (record { memory = []; fair = false; tables = shows.tables i; boards = shows.boards i; scripts = [] }) board
+      λ i.
+      number_of (record { memory = []; fair = false; tables = shows.tables i; boards = shows.boards i; scripts = [] })
+      board
 
   pub state_shown : (board line : ℕ) → state_at parts.rack.rows board line ≡ state_at c.rows board line
   state_shown board line = ap (λ rows. state_at rows board line) shows.rack.rows

@@ -39,8 +39,8 @@ ArbitrationShows (Fair served) requests =
     (requests.fair ≡ true) × ServedFit served requests.served
 
 -- The parts are of a setup and show a configuration: the rack has its tables, boards, rows and
--- counts, memory its words, the arbiter its numbers, requests and marks, and the rest its places and
--- its phase.
+-- counts, memory its words, the arbiter its numbers, requests and marks, and the rest its places
+-- and its phase.
 pub record PartsShow (setup : Setup) (c : Configuration) (parts : Parts) : Type 0 where
   pub tables : parts.rack.tables ≡ setup.tables
   pub boards : parts.rack.specs ≡ setup.boards

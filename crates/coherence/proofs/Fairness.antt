@@ -83,7 +83,8 @@ none_waits served boards board none raised = go (is_served served board) refl
     go false e =
         let waits : is_waiting served boards board ≡ true =
         and_from (is_raised boards board) (not (is_served served board)) raised (ap not e) in
-        let any = any-in (is_waiting served boards) (places_from 1 boards) board (raised_in boards board raised) waits in
+        let any =
+        any-in (is_waiting served boards) (places_from 1 boards) board (raised_in boards board raised) waits in
         absurd (both_ways (does_any_wait served boards) none any)
 
 -- Where some board waits to be served, the winner was not served.

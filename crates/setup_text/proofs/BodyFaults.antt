@@ -311,8 +311,8 @@ module _ (rest : List Place) (line : ℕ) where
         begins_by (open_rows (text n ws ts (front ++ b ∷ []))) (access_row a) words more
         (next_access n ws ts front b a h.fits fits) e
 
-  module _ (n : Opener) (ws : List (ℕ × ℕ)) (ts : List TableText) (bs : List BoardText) (h : StandsSoFar (text n ws ts bs))
-      (some : 0 < length bs) where
+  module _ (n : Opener) (ws : List (ℕ × ℕ)) (ts : List TableText) (bs : List BoardText)
+      (h : StandsSoFar (text n ws ts bs)) (some : 0 < length bs) where
     begins_there :
         (a : Access) (words more : Words) → AccessFits a → access_row a ≡ words ++ more → Begins (text n ws ts bs) words
     begins_there a words more fits e = go (empty_or_last bs)
@@ -423,8 +423,8 @@ module _ (rest : List Place) (line : ℕ) where
           (λ x y a b. begins_there (accesses.Write x y) (codes "write" ∷ decimal x ∷ decimal y ∷ []) [] (a, b) refl)
           (λ t others f. expects_access events.Write t others f) l a e
 
-  module _ (n : Opener) (ws : List (ℕ × ℕ)) (ts : List TableText) (bs : List BoardText) (h : StandsSoFar (text n ws ts bs))
-      (some : 0 < length bs) where
+  module _ (n : Opener) (ws : List (ℕ × ℕ)) (ts : List TableText) (bs : List BoardText)
+      (h : StandsSoFar (text n ws ts bs)) (some : 0 < length bs) where
     there :
         (a : Access) (words more : Words) → AccessFits a → access_row a ≡ words ++ more → Begins (text n ws ts bs) words
     there a words more fits e = begins_there n ws ts bs h some a words more fits e

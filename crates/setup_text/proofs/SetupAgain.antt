@@ -191,7 +191,9 @@ table_again n ws ts t h =
     rows_push (body (setup_of (text n ws ts []))) (in_table (setup_of (text n ws ts [])) (table_of t.name t.cells))
     (body (with_table (setup_of (text n ws ts [])) (table_of t.name t.cells))) (open_table_rows t) end_row
     (open_again n ws ts t h) closes
-    ∙ ap (λ (x : List Table). Ok (body (record { memory = memory_of n.0 ws; fair = n.1; tables = x; boards = []; scripts = [] })))
+    ∙ ap
+    (λ (x : List Table).
+    Ok (body (record { memory = memory_of n.0 ws; fair = n.1; tables = x; boards = []; scripts = [] })))
     (sym (tables_append ts t))
 
 -- ---- a board

@@ -205,8 +205,8 @@ module _ (rest : List Place) (line : ℕ) where
 first_free : (l : Words) (m : Mode) → first_line l ≡ Ok m → FreeFront BreaksSetup [] l
 unfolding first_line
 first_free l m e =
-    let a = binds (this_word (codes "memory") l) (λ after. memory_line after >>= λ lines. Ok (headed (empty_setup lines)))
-    m e in
+    let a = binds (this_word (codes "memory") l)
+    (λ after. memory_line after >>= λ lines. Ok (headed (empty_setup lines))) m e in
     let b = binds (memory_line a.value) (λ lines. Ok (headed (empty_setup lines))) m a.then in
     let n = memory_read a.value b.value b.here in
     let is : l ≡ memory_row b.value =
@@ -221,7 +221,8 @@ rows_more :
 rows_more done l =
     append_assoc (done ++ l ∷ []) (end_row ∷ []) (end_row ∷ []) ∙ append_assoc done (l ∷ []) (end_row ∷ end_row ∷ [])
 
-module _ (n : Opener) (ws : List (ℕ × ℕ)) (ts : List TableText) (t : TableText) (h : OpenStands (text n ws ts []) t) where
+module _ (n : Opener) (ws : List (ℕ × ℕ)) (ts : List TableText) (t : TableText)
+    (h : OpenStands (text n ws ts []) t) where
   abbrev Done : List Words
   Done = open_rows (text n ws ts []) ++ open_table_rows t
 
@@ -304,7 +305,8 @@ module _ (n : Opener) (ws : List (ℕ × ℕ)) (ts : List TableText) (t : TableT
       (end_rows ∙ ap (λ (x : List Words). x ++ end_row ∷ end_row ∷ []) (sym e))
 
 -- what holds of an open table holds with no boards
-with_none : (P : SetupText → Type 0) (s : SetupText) → s.boards ≡ [] → P (text (s.lines, s.fair) s.words s.tables []) → P s
+with_none :
+    (P : SetupText → Type 0) (s : SetupText) → s.boards ≡ [] → P (text (s.lines, s.fair) s.words s.tables []) → P s
 with_none P s none p = subst (λ (x : List BoardText). P (text (s.lines, s.fair) s.words s.tables x)) (sym none) p
 
 open_none : (s : SetupText) (t : TableText) → OpenStands s t → OpenStands (text (s.lines, s.fair) s.words s.tables []) t
@@ -438,8 +440,8 @@ completes (so_far s) good done l e = (
 )
 completes (opened s t) good done l e =
     let none : rows_of (opened (text (s.lines, s.fair) s.words s.tables []) t) ≡ rows_of (opened s t) =
-    ap (λ (x : List BoardText). open_rows (text (s.lines, s.fair) s.words s.tables x) ++ open_table_rows t) (sym good.boards)
-    in
+    ap (λ (x : List BoardText). open_rows (text (s.lines, s.fair) s.words s.tables x) ++ open_table_rows t)
+    (sym good.boards) in
     let n = next_end (s.lines, s.fair) s.words s.tables t (open_none s t good) in (
       n.0,
       end_row ∷ n.1,
@@ -463,12 +465,17 @@ ends_early begin end f good e =
     never r fits h k = cc
 ends_early (top n) end f good e =
     let same : record { line = end; kind = NoEnd } ≡ f = cc in
-    subst (λ (x : Fault). FaultBehind setup_grammar (open_rows (text (n, false) [] [] [])) (lines_places [] end) x.line x.kind) same
+    subst (λ (x : Fault).
+    FaultBehind setup_grammar (open_rows (text (n, false) [] [] [])) (lines_places [] end) x.line x.kind) same
     (text_stops setup_grammar setup_rows (text_end ∷ []) closed_text spelled BreaksSetup same_breaks same_breaks
     (open_rows (text (n, false) [] [] [])) end NoEnd never refl)
   where
-    never : (r : SetupText) → SetupFits r → setup_rows r ≡ open_rows (text (n, false) [] [] []) → text_end ∷ [] ≡ text_end ∷ [] → ⊥
-    never r fits h k = nothing_follows r (text (n, false) [] [] []) end_row [] good.fits (ap (λ (x : List Words). x ++ end_row ∷ []) (sym h))
+    never :
+        (r : SetupText) → SetupFits r → setup_rows r ≡ open_rows (text (n, false) [] [] [])
+        → text_end ∷ [] ≡ text_end ∷ [] → ⊥
+    never r fits h k =
+        nothing_follows r (text (n, false) [] [] []) end_row [] good.fits
+        (ap (λ (x : List Words). x ++ end_row ∷ []) (sym h))
 ends_early (so_far s) end f good e =
     let same : record { line = end; kind = NoEnd } ≡ f = cc in
     subst (λ (x : Fault). FaultBehind setup_grammar (open_rows s) (lines_places [] end) x.line x.kind) same
@@ -476,7 +483,8 @@ ends_early (so_far s) end f good e =
     (open_rows s) end NoEnd never refl)
   where
     never : (r : SetupText) → SetupFits r → setup_rows r ≡ open_rows s → text_end ∷ [] ≡ text_end ∷ [] → ⊥
-    never r fits h k = nothing_follows r s end_row [] good.stands.fits (ap (λ (x : List Words). x ++ end_row ∷ []) (sym h))
+    never r fits h k =
+        nothing_follows r s end_row [] good.stands.fits (ap (λ (x : List Words). x ++ end_row ∷ []) (sym h))
 ends_early (opened s t) end f good e =
     let same : record { line = end; kind = NoEnd } ≡ f = cc in
     subst (λ (x : Fault).
@@ -489,7 +497,8 @@ ends_early (opened s t) end f good e =
         → ⊥
     never r fits h k =
         let none : rows_of (opened s t) ≡ rows_of (opened (text (s.lines, s.fair) s.words s.tables []) t) =
-        ap (λ (x : List BoardText). open_rows (text (s.lines, s.fair) s.words s.tables x) ++ open_table_rows t) good.boards in
+        ap (λ (x : List BoardText). open_rows (text (s.lines, s.fair) s.words s.tables x) ++ open_table_rows t)
+        good.boards in
         never_open (s.lines, s.fair) s.words s.tables t (open_none s t good) r fits (h ∙ none)
 ends_early (closed s) end f good e = absurd cc
 

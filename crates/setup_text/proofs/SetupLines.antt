@@ -87,8 +87,8 @@ grows_by p l k m e g = subst (λ (x : Words). Grows p x m) (sym e) g
 first_takes : (l : Words) (m : Mode) → first_line l ≡ Ok m → Grows begin l m
 unfolding first_line
 first_takes l m e =
-    let a = binds (this_word (codes "memory") l) (λ after. memory_line after >>= λ lines. Ok (headed (empty_setup lines)))
-    m e in
+    let a = binds (this_word (codes "memory") l)
+    (λ after. memory_line after >>= λ lines. Ok (headed (empty_setup lines))) m e in
     let b = binds (memory_line a.value) (λ lines. Ok (headed (empty_setup lines))) m a.then in
     let n = memory_read a.value b.value b.here in
     grows_by begin (memory_row b.value) l m
@@ -256,8 +256,8 @@ board_takes n ws ts bs l m s e = room (ltb (length (setup_of (text n ws ts bs)).
         })
 
 access_takes :
-    (n : Opener) (ws : List (ℕ × ℕ)) (ts : List TableText) (bs : List BoardText) (event : LocalEvent) (l : Words) (m : Mode)
-    → StandsSoFar (text n ws ts bs) → access_read (setup_of (text n ws ts bs)) event l ≡ Ok m
+    (n : Opener) (ws : List (ℕ × ℕ)) (ts : List TableText) (bs : List BoardText) (event : LocalEvent) (l : Words)
+    (m : Mode) → StandsSoFar (text n ws ts bs) → access_read (setup_of (text n ws ts bs)) event l ≡ Ok m
     → Grows (so_far (text n ws ts bs)) (local_event_word event ∷ l) m
 access_takes n ws ts bs event l m s e = go (empty_or_last bs)
   where
@@ -491,7 +491,8 @@ table_takes n ws ts t l m h e = go (table_line (table_of t.name t.cells) l) refl
 
 -- A setup with an `arbiter` line stands where it stands without.
 pub stands_fair : (n : ℕ) → StandsSoFar (text (n, false) [] [] []) → StandsSoFar (text (n, true) [] [] [])
-stands_fair n s = let lines = lines_of_draft (text (n, false) [] [] []) s.sound in stands_memory (n, true) lines.0 lines.1
+stands_fair n s =
+    let lines = lines_of_draft (text (n, false) [] [] []) s.sound in stands_memory (n, true) lines.0 lines.1
 
 arbiter_takes :
     (n : ℕ) (l : Words) (m : Mode) → StandsSoFar (text (n, false) [] [] [])

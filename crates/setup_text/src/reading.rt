@@ -167,7 +167,7 @@ fn arbiter_line(scan: &mut Scan, draft: &mut Draft) -> Result<(), SetupFault>
     Ok(())
 }
 
-/// Reads the line or the table after the `memory` line. Answers whether it was the `end` line.
+/// Reads the line or the table after the `memory` line. Returns whether it was the `end` line.
 #[tactic(auto, unfolding(crate::specs::Reading::second_line))]
 fn second_line(alloc: Global, scan: &mut Scan, draft: &mut Draft) -> Result<bool, SetupFault>
     ensures exact { GoesOn lines_at (mode_after draft.new) result scan.new

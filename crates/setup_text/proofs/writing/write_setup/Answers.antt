@@ -9,8 +9,8 @@ use Rattle.setup_text.proofs.writing.write_setup.Goals as goal
 pub returns-clause-written : goal.returns-clause-written
 returns-clause-written c =
     let old = c.args.text.now.bytes in
-    setup_written old c.line_of_one.new.text.bytes c.arbiter_line.new.text.bytes c.word_lines.new.text.bytes c.all_tables.new.text.bytes
-    c.all_boards.new.text.bytes c.push.new.self.bytes c.args.setup.now
+    setup_written old c.line_of_one.new.text.bytes c.arbiter_line.new.text.bytes c.word_lines.new.text.bytes
+    c.all_tables.new.text.bytes c.all_boards.new.text.bytes c.push.new.self.bytes c.args.setup.now
     (c.line_of_one.ensures.bytes
     ∙ (ap (λ (v : List ℕ). v ++ line_bytes (memory_row (length c.memory-memory.result.now / 4)))
     c.in_ok-reserve.ensures.bytes
