@@ -16,7 +16,7 @@
 mod laws;
 mod lines;
 mod page;
-mod printing;
+mod printer;
 mod run;
 mod spelling;
 #[cfg(test)]

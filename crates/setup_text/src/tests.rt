@@ -196,6 +196,40 @@ fn boards_with_a_fault(rt: HostRuntime) -> Result<(), Fail> {
     Ok(())
 }
 
+/// How long the name of the one table of a text is, or the fault of the text.
+fn alone_in(alloc: Global, text: &str) -> Result<Result<usize, SetupFault>, Fail> {
+    if text.len() >= 100_000 {
+        return Err(Fail::from("long"));
+    }
+    match read_table_alone(alloc, text.as_bytes()) {
+        Ok(table) => Ok(Ok(table.name().bytes().len())),
+        Err(fault) => Ok(Err(fault)),
+    }
+}
+
+#[test]
+fn texts_of_one_table(rt: HostRuntime) -> Result<(), Fail> {
+    let alone = alone_in(rt.alloc(), "# one\ntable xyz\nend\n\n# no more\n")?;
+    assert_eq!(rt; alone, Ok(3));
+    let rows = [
+        ("", 1, SetupKind::NoEnd),
+        ("memory 1\n", 1, SetupKind::UnknownWord),
+        ("\ntable x\n", 3, SetupKind::NoEnd),
+        ("table x y\nend\n", 1, SetupKind::UnknownWord),
+        ("table x\nend\n\ntable y\nend\n", 4, SetupKind::UnknownWord),
+        (
+            "table x\nI read = I\nI read = I\nend\nmore\n",
+            3,
+            SetupKind::TwiceCell,
+        ),
+    ];
+    for (text, line, kind) in rows {
+        let read = alone_in(rt.alloc(), text)?;
+        assert_eq!(rt; read, Err(SetupFault::Bad { line, kind }), "{text}");
+    }
+    Ok(())
+}
+
 /// How many tables a text has, or its fault.
 fn tables_in(alloc: Global, text: &str) -> Result<Result<usize, SetupFault>, Fail> {
     if text.len() >= 100_000 {

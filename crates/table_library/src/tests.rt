@@ -3,6 +3,7 @@
 use super::*;
 use bus_signals::{Access, Addr, BUS_EVENTS, BoardNo, BusEvent, LOCAL_EVENTS, LineNo, LocalEvent};
 use class_relation::{LocalAction, Name, Table};
+use fb_text::Text;
 use journal::{Answers, Carried, Connected, Done, Event, Places, Source, States, Takers};
 use moesi_state::{Outcome, STATES, State};
 use std::alloc::Global;
@@ -254,7 +255,8 @@ fn small_journal() -> [Event; 9] {
 
 #[test]
 fn a_small_journal_is_counted(rt: HostRuntime) -> Result<(), Fail> {
-    let report = traffic(&small_journal());
+    let journal = small_journal();
+    let report = traffic(&journal);
     let first = Counts {
         connects: 1,
         words: 4,
@@ -280,5 +282,12 @@ fn a_small_journal_is_counted(rt: HostRuntime) -> Result<(), Fail> {
     assert_eq!(rt; report.board(BoardNo(2)), second);
     assert_eq!(rt; report.board(BoardNo(16)), none);
     assert_eq!(rt; report.memory(), (1, 1));
+    let mut text = Text::new(rt.alloc());
+    text.reserve(4096)?;
+    write_traffic(&journal, 2, &mut text);
+    let lines = "traffic 1 connects 1 words 4 local 0 served 1 took 1\n\
+                 traffic 2 connects 3 words 5 local 1 served 0 took 0\n\
+                 traffic memory served 1 took 1\n";
+    assert_eq!(rt; text.bytes(), lines.as_bytes());
     Ok(())
 }
