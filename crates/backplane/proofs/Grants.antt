@@ -8,7 +8,7 @@ use Rattle.std.proofs.lemmas.List.{length-map}
 use Rattle.bus_model.specs.Places.{places_from}
 use Rattle.bus_model.specs.Setup.{Setup, BoardSpec, number_of}
 use Rattle.bus_model.specs.Events.{Grant, Raise, Transaction}
-use Rattle.bus_model.specs.Configuration.{Configuration, Progress, Arbitration, ByNumber, Fair, Idle, Granted, Connected, fresh, is_raised, is_served}
+use Rattle.bus_model.specs.Configuration.{Configuration, Progress, Arbitration, ByNumber, Fair, Idle, Granted, Connected, is_raised, is_served}
 use Rattle.bus_model.specs.Arbitration.{competing, competing_numbers, is_waiting, winner_of}
 use Rattle.bus_model.specs.Arbitration as model
 use Rattle.bus_model.specs.Soundness.{ArbitrationFits, PartsFit}

@@ -14,7 +14,7 @@ use Rattle.bus_model.specs.Configuration.{Arbitration, Progress}
 use Rattle.bus_model.specs.Arbitration.{competing, competing_numbers, does_compete}
 use Rattle.coherence.proofs.Competing.{competes_raised, raised_in}
 use Rattle.coherence.proofs.Lists.{In, in-all, all-in, in-filter, filter-in, in-map, map-in, empty-none}
-use Rattle.coherence.proofs.Places.{IsPlace, places-in, in-places}
+use Rattle.coherence.proofs.Places.{IsPlace, in-places}
 use Rattle.coherence.proofs.Cells.{spec_there}
 
 -- What holds of each element holds at each index.

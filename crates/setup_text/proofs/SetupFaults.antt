@@ -24,7 +24,7 @@ use Rattle.setup_text.specs.Values.{setup_of}
 use Rattle.setup_text.specs.Grammars.{setup_grammar, BreaksSetup, JudgedLines, UnfitText, unfit_word, unfit_end, kind_of}
 use Rattle.setup_text.specs.Correct.{IsFirstFault}
 use Rattle.setup_text.specs.Drafts.{empty_setup}
-use Rattle.setup_text.specs.Reading.{Mode, headed, body, Fault, Answers, on_line, number_at, in_lines, this_word, line_ends, memory_line, first_line, as_setup_kind, after_table_line, line_at, lines_at, text_ends, setup_at}
+use Rattle.setup_text.specs.Reading.{Mode, headed, Fault, Answers, on_line, number_at, in_lines, this_word, line_ends, memory_line, first_line, as_setup_kind, after_table_line, line_at, lines_at, text_ends, setup_at}
 use Rattle.setup_text.proofs.LineWords.{binds, number_read, word_read, memory_read}
 use Rattle.setup_text.proofs.Growing.{each_push}
 use Rattle.setup_text.proofs.Parts.{Opener, text, is_bare, table_text, rows_table}
