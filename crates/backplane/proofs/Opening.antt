@@ -213,7 +213,7 @@ pub parts-open :
     (setup : Setup) (p : Parts) (tables : List Table) (words numbers : List ℕ) (fair : Bool) → WellFormed setup
     → fair ≡ setup.fair
     → tables ≡ setup.tables → p.rack ≡ empty_rack tables setup.boards → words ≡ setup.memory → p.memory ≡ words
-    → numbers ≡ map (λ (spec : BoardSpec). spec.number) setup.boards → p.requests ≡ nobody_raised numbers fair fair
+    → numbers ≡ map (λ (spec : BoardSpec). spec.number) setup.boards → p.requests ≡ nobody_raised numbers fair
     → p.places.items ≡ map (λ (spec : BoardSpec). 0) setup.boards → p.phase ≡ IdlePhase
     → PartsShow setup (opening setup) p
 parts-open setup p tables words numbers fair well is_fair same er ew em en eq ep ei = record {

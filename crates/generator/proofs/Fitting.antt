@@ -196,7 +196,7 @@ pub parts_fit : (n : ℕ) (memory : List ℕ) (tables : List Table) (boards : Li
     → WellFormed (record { memory = memory; fair = false; tables = tables; boards = boards; scripts = scripts })
 parts_fit n memory tables boards scripts m t b s =
     let same :
-        generated n ≡ record { memory = memory; fair = false; tables = tables; boards = boards; scripts = scripts } =
+    generated n ≡ record { memory = memory; fair = false; tables = tables; boards = boards; scripts = scripts } =
     λ i. record { memory = sym m i; fair = false; tables = sym t i; boards = sym b i; scripts = sym s i } in
     subst (λ (setup : Setup). WellFormed setup) same (generated_fits n)
 

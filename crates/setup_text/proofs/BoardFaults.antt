@@ -175,7 +175,8 @@ pub begins_board :
     (s : SetupText) (b : BoardText) (front more : Words) → StandsSoFar s → BoardFits b → b.script ≡ []
     → board_row b ≡ front ++ more → Begins s front
 begins_board s b front more h fits none e =
-    begins_by (open_rows s) (board_row b) front more (next_board s.lines s.words s.tables s.boards b h.fits fits none) e
+    begins_by (open_rows s) (board_row b) front more
+    (next_board (s.lines, s.fair) s.words s.tables s.boards b h.fits fits none) e
 
 -- what is a name
 pub a_name : is_name (codes "a") ≡ true

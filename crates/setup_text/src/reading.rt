@@ -218,6 +218,18 @@ fn text_end(scan: &mut Scan, draft: Draft) -> Result<Setup, SetupFault>
     Ok(draft.finish())
 }
 
+/// Reads the lines after others, up to the end of the text.
+fn rest(alloc: Global, scan: &mut Scan, mut draft: Draft) -> Result<Setup, SetupFault>
+    ensures { Answers (λ s. s) result (lines_at (Mode.body draft) scan.old.lines scan.old.end) }
+{
+    while scan.next_line() {
+        if line(alloc, scan, &mut draft)? {
+            return text_end(scan, draft);
+        }
+    }
+    Err(bad(scan, SetupKind::NoEnd))
+}
+
 fn setup(alloc: Global, bytes: &[u8]) -> Result<Setup, SetupFault>
     requires { length bytes.now < 2 ^ 31 }
     ensures { Answers (λ s. s) result (setup_at (unread bytes.now)) }
@@ -230,12 +242,7 @@ fn setup(alloc: Global, bytes: &[u8]) -> Result<Setup, SetupFault>
     if second_line(alloc, &mut scan, &mut draft)? {
         return text_end(&mut scan, draft);
     }
-    while scan.next_line() {
-        if line(alloc, &mut scan, &mut draft)? {
-            return text_end(&mut scan, draft);
-        }
-    }
-    Err(bad(&scan, SetupKind::NoEnd))
+    rest(alloc, &mut scan, draft)
 }
 
 /// Reads a setup.
