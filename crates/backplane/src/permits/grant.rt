@@ -32,7 +32,7 @@ fn has_raised(parts: &Parts, board: BoardNo) -> bool
     parts.requests.raised(board)
 }
 
-/// Whether a board, which may be none of the machine's, competes for the bus.
+/// Whether a board competes for the bus. It may be a board that the machine does not have.
 fn competes(parts: &Parts, board: BoardNo) -> bool
     requires { AreOfOneSetup parts.now }
     ensures { IsTrue result ↔ Competes parts.now board }
