@@ -48,7 +48,7 @@ covers_half x h same below = go (cases_lt x h)
         subst (λ (y : ℕ). Covers y x) high (subst (λ (y : ℕ). Covers ((x / 2) * 2 ^ 1 + 1) y) low (covers_next (x / 2)))
     go (inr more) = let even : x ≡ h = omega arith in subst (λ (y : ℕ). Covers h y) (sym even) (covers_self h)
 
--- What covers a number still does with the same bits after both, or with any after it.
+-- A number still covers another with the same bits appended to both, or with any appended to it.
 pub covers_shifted : (m x h r : ℕ) → Covers h x → r < 2 ^ m → Covers (h * 2 ^ m + r) (x * 2 ^ m)
 covers_shifted m x h r covers low =
     let zeros : x * 2 ^ m + 0 ≡ x * 2 ^ m = omega arith in

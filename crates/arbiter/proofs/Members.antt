@@ -1,10 +1,10 @@
--- What stands in a list of numbers, and the highest of it.
+-- The members of a list of numbers, and the highest of them.
 use Rattle.std.proofs.Common.{◌≡◌, ℕ, ◌<◌, ◌≤◌, List, [], ◌∷◌, length, map, max, refl, ap, subst, sym, arith, inl, inr, ◌⊎◌}
 use Rattle.std.specs.List.{AllByRecursion}
 use Rattle.std.proofs.lemmas.Bool.{cases_lt}
 use Rattle.bus_model.specs.Settling.{highest}
 
--- A number stands in a list.
+-- A number is in a list.
 abbrev pub In : ℕ → List ℕ → Type 0
 In x [] = ⊥
 In x (y ∷ ys) = (x ≡ y) ⊎ In x ys

@@ -1,4 +1,4 @@
--- The competing numbers and the winner, looked for from the first board on.
+-- The competing numbers and the winner, searched for from the first board on.
 use Rattle.std.proofs.Common.{◌≡◌, ◌≢◌, ℕ, zero, suc, ◌+◌, ◌<◌, ◌≤◌, Bool, true, false, ◌&&◌, cond, List, [], ◌∷◌, ◌++◌, Some, None, length, drop, take, refl, sym, ap, ◌∙◌, subst, arith, inl, inr, ◌⊎◌, append_assoc, append-nil}
 use Rattle.std.specs.Prelude.{All, slice_index, slice_index_or, ◌==◌}
 use Rattle.std.proofs.lemmas.Bool.{eqb-true, eq-eqb}
@@ -56,7 +56,7 @@ gathered_all numbers raised i before h e =
     ap (λ ns. raised_numbers ns (drop i raised)) (drop_end numbers i h) in
     sym (e ∙ ap (λ x. before ++ x) none ∙ append-nil before)
 
--- The winner, looked for from this board on.
+-- The winner, searched for from this board on.
 winner_step :
     (numbers : List ℕ) (raised : List Bool) (i number : ℕ) → i < length numbers → i < length raised
     → winner_from (i + 1) (drop i numbers) (drop i raised) number
@@ -128,7 +128,7 @@ all_from P [] each i d lt = absurd (omega (arith, lt))
 all_from P (y ∷ ys) each zero d lt = each y (inl refl)
 all_from P (y ∷ ys) each (suc i) d lt = all_from P ys (λ x there. each x (inr there)) i d (omega (arith, lt))
 
--- Those that compete are a contest, where there are any.
+-- The competing numbers are a contest, if there are any.
 pub raised_contest :
     (numbers : List ℕ) (raised : List Bool) → IsContest numbers → 1 ≤ length (raised_numbers numbers raised)
     → IsContest (raised_numbers numbers raised)
@@ -222,7 +222,7 @@ pub won :
 won numbers raised number index e =
     let moved : index + 1 ≡ 1 + index = omega arith in won_from 1 numbers raised number index (e ∙ ap Some moved)
 
--- Where the numbers that compete are not none, the first of them has a winner.
+-- If any number competes, the first that does has a winner.
 pub some_compete :
     (numbers : List ℕ) (raised : List Bool) (count : ℕ) (gathered : List ℕ)
     → take count gathered ≡ raised_numbers numbers raised → length (take count gathered) ≡ count → (count ≡ 0 → ⊥)

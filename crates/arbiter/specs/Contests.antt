@@ -5,7 +5,7 @@ use Rattle.std.specs.Prelude.{ℕ, ◌≤◌, List, length, All}
 abbrev pub IsNumber : ℕ → Type 0
 IsNumber number = (1 ≤ number) × (number ≤ 255)
 
--- The numbers of a contest: 1 to 16 of them. The lines settle in the same way where some are equal.
+-- The numbers of a contest: 1 to 16 of them. The lines settle the same way even if some are equal.
 pub record IsContest (numbers : List ℕ) : Type 0 where
   pub some : 1 ≤ length numbers
   pub most : length numbers ≤ 16

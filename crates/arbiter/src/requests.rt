@@ -37,7 +37,7 @@ impl Model for Requests {
     ghost invariant = { λ r. IsContest r.numbers.items };
 }
 
-/// Adds a number after the first ones of a list, if it competes, and tells how many there are then.
+/// Adds a number after the first ones of a list, if it competes, and returns how many it then has.
 fn add_if(competes: bool, numbers: &mut [u16; 16], count: usize, number: u16) -> usize
     requires { count < 16 }
     ensures numbers { take result numbers.new
@@ -91,7 +91,7 @@ fn index_of(numbers: &[u16], raised: &[bool; 16], number: u16) -> Option<usize>
     None
 }
 
-/// Settles a contest whose looks nobody counts.
+/// Settles a contest without counting the looks.
 fn settled<L: Ledger>(blank: Blank, numbers: &[u16]) -> Settled
     requires name { blank.name ≡ L.name }
     requires parts { blank.parts ≡ L.parts }

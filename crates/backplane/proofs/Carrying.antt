@@ -1,4 +1,4 @@
--- What the facts of a data phase tell together: it may happen.
+-- The facts of a data phase together mean that it may happen.
 use Rattle.std.proofs.Common.{Bool, Option, [], ap, refl, subst, sym, true, ℕ, ◌∙◌, ◌∷◌, ◌≡◌}
 use Rattle.std.proofs.lemmas.Option.{same_Some}
 use Rattle.std.specs.Prelude.{IsSome, is_some, ◌↔◌}
@@ -93,7 +93,7 @@ words_seen setup c parts shows master line (Board board) =
     source_words (record { memory = []; rows = shows.rack.rows i; boards = []; phase = c.phase }) master line
     (Board board)
 
--- What the data phase is to say, as the parts have it.
+-- The data phase that the transaction must have, by the parts.
 carried_seen :
     (setup : Setup) (c : Configuration) (parts : Parts) → PartsShow setup c parts
     → (t : Transaction) (access : Option Access) → access ≡ present_access setup c.boards t.master

@@ -69,7 +69,7 @@ get-index [] k d l = absurd (omega arith)
 get-index (x ∷ xs) zero d l = refl
 get-index (x ∷ xs) (suc k) d l = get-index xs k d (omega arith)
 
--- What stands at a place.
+-- The element at a place.
 pub at-is :
     {X : Type 0} (xs : List X) (b k : ℕ) (d : X) → 1 ≤ b → k ≡ b - 1 → b ≤ length xs
     → at_place xs b ≡ Some (get_or xs k d)

@@ -1,4 +1,4 @@
--- What the facts of a transaction tell together: it may be connected.
+-- The facts of a transaction together mean that it may be connected.
 use Rattle.std.proofs.Common.{Bool, List, None, Option, Some, [], ap, false, not, refl, subst, sym, true, ℕ, ◌∙◌, ◌∷◌, ◌≡◌, ◌||◌, ◌==◌, length}
 use Rattle.std.proofs.lemmas.Bool.{and_from, and_parts, eq-eqb, eqb-true}
 use Rattle.std.proofs.lemmas.Option.{same_Some}
@@ -45,7 +45,7 @@ full_is setup rows board line well there = go (victim setup rows board line) ref
     go None e = none e (is_full setup rows board line) refl
     go (Some v) e = sym (victim_is setup rows board line v e).3.full
 
--- An outcome passes as the fixed I exactly where it is.
+-- An outcome passes the test for the fixed I exactly where it is the fixed I.
 pub invalid_is : (outcome : Outcome) → (is_invalid outcome ≡ true) ↔ (outcome ≡ Fixed I)
 invalid_is outcome = (same_outcome-eq outcome (Fixed I), λ e. ap is_invalid e)
 

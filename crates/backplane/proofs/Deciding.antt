@@ -1,4 +1,4 @@
--- What tests tell together.
+-- Tests taken together.
 use Rattle.std.proofs.Common.{Bool, List, [], ap, false, not, refl, true, ◌∙◌, ◌∷◌, ◌≡◌, sym}
 use Rattle.std.proofs.lemmas.Bool.{and_from, and_parts, not-true}
 use Rattle.std.specs.Prelude.{◌↔◌, ◌||◌}
@@ -19,7 +19,7 @@ one_more b rest P Q d e = (
   λ h. and_from b (all_of rest) (d.1 h.0) (e.1 h.1),
 )
 
--- A test that is another test tells the same.
+-- A test that equals another decides the same fact.
 pub as_well : (a b : Bool) (P : Type 0) → a ≡ b → ((b ≡ true) ↔ P) → ((a ≡ true) ↔ P)
 as_well a b P e d = (λ h. d.0 (sym e ∙ h), λ h. e ∙ d.1 h)
 

@@ -1,4 +1,4 @@
--- There are never more rows or replies than were told of the setup.
+-- There are never more rows or replies than the setup needs.
 use Rattle.std.proofs.Common.{◌≡◌, ℕ, zero, suc, ◌+◌, ◌<◌, ◌≤◌, Bool, true, false, cond, List, [], ◌∷◌, length, get_or, refl, ap, sym, subst, ◌∙◌, arith}
 use Rattle.std.specs.Prelude.{All, AllPairs, ◌==◌, slice_get, unwrap_or}
 use Rattle.std.specs.List.{sum_by}

@@ -1,4 +1,4 @@
--- What the facts of a grant tell together: it may happen.
+-- The facts of a grant together mean that it may happen.
 use Rattle.std.proofs.Common.{Bool, List, [], ap, arith, length, refl, sym, true, ℕ, ◌∙◌, ◌∷◌, ◌≡◌, ◌&&◌, ◌==◌}
 use Rattle.std.proofs.lemmas.Bool.{and_from, and_parts, eq-eqb, eqb-true}
 use Rattle.std.specs.Prelude.{◌↔◌, IsTrue}

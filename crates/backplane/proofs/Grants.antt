@@ -144,7 +144,7 @@ some-competes requests zero low high h e = absurd (omega arith)
 some-competes requests (suc k) low high h e =
     let same : suc k - 1 ≡ k = omega arith in some-number requests.numbers requests.raised k high (rw same at h) e
 
--- What the arbiter tells of a contest is the model's grant.
+-- The arbiter's answer to a contest is the model's grant.
 pub grant-told :
     (setup : Setup) (c : Configuration) (p : Parts) (b winner lines rounds : ℕ) → PartsShow setup c p
     → length c.boards ≡ length setup.boards

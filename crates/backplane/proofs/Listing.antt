@@ -29,7 +29,7 @@ get-unwrap [] k d = refl
 get-unwrap (x ∷ xs) zero d = refl
 get-unwrap (x ∷ xs) (suc k) d = get-unwrap xs k d
 
--- What stands at a place is what stands at the index before it.
+-- The element at a place is the element at the index before it.
 pub at-get :
     {X : Type 0} (xs : List X) (b k : ℕ) (d : X) → 1 ≤ b → k ≡ b - 1 → unwrap_or (at_place xs b) d ≡ get_or xs k d
 at-get xs zero k d low e = absurd (omega arith)

@@ -54,7 +54,7 @@ at-index [] i d e l = absurd (omega arith)
 at-index (t ∷ tables) zero d e l = refl
 at-index (t ∷ tables) (suc i) d e l = at-index tables i d e (omega arith)
 
--- The first table that is not accepted is told.
+-- The first table that is not accepted is reported.
 pub first-refused :
     (tables : List Table) (i : ℕ) (table : Table) (fault : AssembleFault) → i < length tables
     → table ≡ get_or tables i table → AllByRecursion InClass (take i tables) → RefusedAt table i fault

@@ -14,7 +14,7 @@ use Rattle.backplane.proofs.Counted.{length-mapped}
 use Rattle.backplane.proofs.Filling.{can-carry, connected-sound}
 use Rattle.backplane.proofs.Stepping.{part-of, part-of-present, stands-sound}
 
--- A test of an event tells of an event that is the same.
+-- A test of an event answers for any equal event too.
 pub of_event :
     (m : Machine) (event same : Event) (answer : Bool) → event ≡ same → ((answer ≡ true) ↔ MayHappen m same)
     → ((answer ≡ true) ↔ MayHappen m event)

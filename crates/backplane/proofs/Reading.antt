@@ -107,7 +107,7 @@ complete-is m well sound done =
     let none = all-done m well done in
     record { scripts = none; idle = no-grant m sound none (configuration m).phase refl }
 
--- A board that has more to do stands against it.
+-- While a board has more to do, the run is not complete.
 pub not-complete : (m : Machine) (board : ℕ) → test_of m board ≡ true → Complete m.setup (configuration m) → ⊥
 not-complete m board some complete =
     let no : test_of m board ≡ false = ap is_some (complete.scripts board) in both_ways (test_of m board) no some

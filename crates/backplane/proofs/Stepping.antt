@@ -59,7 +59,7 @@ run-push setup events event run can =
 pub can-inside : (inside now : Machine) (event : Event) → inside ≡ now → MayHappen now event → MayHappen inside event
 can-inside inside now event e may = subst (λ (m : Machine). MayHappen m event) (sym e) may
 
--- The same of the transaction that a board picks.
+-- The same for the transaction that a board picks.
 pub picks-inside : (inside now : Machine) (board line : ℕ) (event : BusEvent) (outcome : Outcome) → inside ≡ now
     → MayHappen now (Connect (transaction_of now.setup (configuration now) board line event outcome))
     → MayHappen inside (Connect (transaction_of inside.setup (configuration inside) board line event outcome))
@@ -67,7 +67,7 @@ picks-inside inside now board line event outcome e may =
     subst (λ (m : Machine). MayHappen m (Connect (transaction_of m.setup (configuration m) board line event outcome)))
     (sym e) may
 
--- ---- what stands of every machine
+-- ---- what holds of every machine
 
 module _ (setup : Setup) (events : List Event) (capacity : ℕ) (p : Parts) (h : Histories)
     (stands : Stands setup events capacity p h) where
@@ -104,7 +104,7 @@ module _ (setup : Setup) (events : List Event) (capacity : ℕ) (p : Parts) (h :
       let there = board_there setup (configuration_after setup events).boards b access stands.fits present in
       part-of b there.low there.high
 
-  -- The board that an event is of is one of the parts'.
+  -- The board of an event is one of the parts'.
   pub part-of-user : (event : Event) → Can setup (configuration_after setup events) event → IsPartOf p (user_of event)
   part-of-user event can =
       let user = user_present setup events (configuration_after setup events) event stands-sound can in
@@ -256,7 +256,7 @@ answers-are-boards setup c p t s fit =
     (holders-from p.rack (λ board. not (board == t.master) && holds (state_at c.rows board t.line)) 1 setup.boards
     (omega arith) (omega (arith, long)))
 
--- The board that an event is of is one of the parts' after it too.
+-- The board of an event is one of the parts' after the event too.
 pub part-still :
     (setup : Setup) (events : List Event) (capacity : ℕ) (p next : Parts) (h : Histories)
     → Stands setup events capacity p h → (event : Event) → Can setup (configuration_after setup events) event

@@ -1,4 +1,4 @@
--- What the facts of an event tell together: the event may happen.
+-- The facts of an event together mean that it may happen.
 use Rattle.std.proofs.Common.{Bool, None, Option, Some, [], ap, not, refl, subst, sym, true, ℕ, ◌∙◌, ◌∷◌, ◌≡◌, ◌||◌}
 use Rattle.std.proofs.lemmas.Option.{same_Some}
 use Rattle.std.specs.Prelude.{IsFalse, IsTrue, option_map, ◌↔◌}
@@ -119,7 +119,7 @@ local_told setup c board access before next done present connected same alternat
           ),
         )
 
--- A line and a state are those of the victim where the line is, and the state is that of the board's copy of it.
+-- A line and a state are those of the victim if the line is the victim's and the state is that of the board's copy.
 pub victim_told :
     (setup : Setup) (n : ℕ) (c : Configuration) (board line : ℕ) (other : ℕ) (before : State)
     → RowsSound setup n c.rows c.boards

@@ -127,7 +127,7 @@ round_goes_on setup events c well sound unfinished = go (done_or_not setup c wel
     go (inl done) = absurd (unfinished (complete_then setup events c sound done))
     go (inr r) = rounds_go_on setup events c r.0 well sound r.1
 
--- What a turn is told counts its events.
+-- The reported result of a turn counts its events.
 pub told_count : (t : Turn) → events_told (told t) ≡ done_by t
 told_count (Did event) = refl
 told_count (Waits why) = refl

@@ -24,12 +24,12 @@ pub record FirstRefused (tables : List Table) (index : ℕ) (verdict : List Cell
   pub told : verdict ≡ faults (table_at tables index)
   pub refused : ¬ (InClass (table_at tables index))
 
--- A table that is not in the class is told, the first one. Want of memory may always be told.
+-- The first table that is not in the class is reported. Lack of memory may always be reported.
 abbrev pub IsRefused : List Table → AssembleFault → Type 0
 IsRefused tables (TableRefused table verdict) = FirstRefused tables table verdict
 IsRefused tables NoMemory = Unit {0}
 
--- A table at this place is told with its faults where it is not in the class.
+-- A table at this place is reported with its faults if it is not in the class.
 abbrev pub RefusedAt : Table → ℕ → AssembleFault → Type 0
 RefusedAt table place (TableRefused index verdict) =
     (index ≡ place) × (verdict ≡ faults table) × ¬ (InClass table)

@@ -1,16 +1,16 @@
--- What a turn of the model does to a machine, and what the caller is told of it.
+-- What a turn of the model does to a machine, and what the caller is told about it.
 use Rattle.bus_model.specs.Turns.{Turn, Did, Waits, Finished, Why, LineHeld, BusTaken, turn, events_of_turns}
 use Rattle.backplane.specs.declared.moved.Moved.{Moved}
 use Rattle.backplane.specs.declared.moved.Why.{Why as Cause}
 use Rattle.backplane.specs.Machine.{Machine, happened, configuration}
 use Rattle.std.specs.Prelude.{ℕ, List, ◌++◌}
 
--- Why a board waits, as the caller is told.
+-- Why a board waits, as reported to the caller.
 abbrev pub cause : Why → Cause
 cause (LineHeld master line) = Cause.Line master line
 cause (BusTaken master) = Cause.Bus master
 
--- What a turn came to, as the caller is told.
+-- The result of a turn, as reported to the caller.
 abbrev pub told : Turn → Moved
 told (Did event) = Moved.Did
 told (Waits why) = Moved.Waits (cause why)
@@ -35,7 +35,7 @@ after_turns machine boards =
       journal = machine.journal ++ events_of_turns machine.setup (configuration machine) boards;
     }
 
--- How many events a turn came to.
+-- The number of events of a turn.
 abbrev pub events_told : Moved → ℕ
 events_told Moved.Did = 1
 events_told (Moved.Waits why) = 0

@@ -1,4 +1,4 @@
--- What the whole life of a machine takes, as it can be told of its setup.
+-- How much a machine needs for its whole life, computed from its setup.
 use Rattle.std.specs.Prelude.{ℕ, ◌*◌, length}
 use Rattle.std.specs.List.{sum_by}
 use Rattle.bus_model.specs.Setup.{Setup, access_count, board_places}

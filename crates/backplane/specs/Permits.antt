@@ -1,4 +1,4 @@
--- What a test of an event tells.
+-- What the answer of a test of an event means.
 use Rattle.std.specs.Prelude.{◌≡◌, ◌↔◌, ℕ, Bool, true, false, ◌&&◌, ◌==◌, List, [], ◌∷◌, Some, IsTrue, filter, length}
 use Rattle.bus_signals.specs.declared.Access.{Access}
 use Rattle.bus_signals.specs.declared.BusEvent.{BusEvent}
@@ -69,7 +69,7 @@ do_fit_among rack t boards answers =
     do_answers_fit (setup_of rack) rack.rows t.line t.event
     (filter (is_other_holder rack.rows t.master t.line) boards) answers
 
--- Whether a contest of these numbers, of which there is one at least, is won by a number, and
+-- Whether a contest of these numbers, at least one of them, is won by a number, and
 -- settles to these lines in this many rounds.
 abbrev pub does_settle : List ℕ → ℕ → ℕ → ℕ → Bool
 does_settle [] number lines rounds = false

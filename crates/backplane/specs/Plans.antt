@@ -1,4 +1,4 @@
--- What a plan makes of a turn.
+-- The turn that a plan leads to.
 use Rattle.std.specs.Prelude.{ℕ}
 use Rattle.bus_model.specs.Setup.{Setup}
 use Rattle.bus_model.specs.Events.{Local, Drop, Raise, Grant, Connect}

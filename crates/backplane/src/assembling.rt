@@ -1,4 +1,4 @@
-//! A machine is made of a setup.
+//! Making a machine from a setup.
 
 ghost use Rattle.std.specs.Prelude.{◌≡◌, ◌≤◌, IfOk, IfErr, length, map};
 ghost use Rattle.std.specs.List.{AllByRecursion};
@@ -83,7 +83,7 @@ fn accepted(alloc: Global, tables: &[Table]) -> Result<Vec<Accepted>, AssembleFa
     Ok(all)
 }
 
-/// The same words again.
+/// A copy of these words.
 fn copied(alloc: Global, words: &[u32]) -> Result<Vec<u32>, NoMemory>
     ensures { IfOk result (λ copy. copy.items ≡ words.now) }
 {
@@ -172,8 +172,8 @@ fn parts(alloc: Global, setup: &Setup, tables: Vec<Accepted>) -> Result<Parts, N
     })
 }
 
-/// The machine of a setup, at its opening. All memory of its life is taken here, and `need` tells
-/// how much.
+/// The machine of a setup, at its opening. All memory that it ever needs is taken here, and `need`
+/// says how much.
 pub fn assemble(alloc: Global, setup: Setup) -> Result<Machine, AssembleFault>
     ensures opening { IfOk result (λ machine. machine ≡ opened setup) }
     ensures accepted { IfOk result (λ machine. AllInClass setup) }

@@ -1,4 +1,4 @@
-//! The completed accesses of each board, in lists whose room was made before.
+//! The completed accesses of each board, in lists whose room is reserved beforehand.
 
 ghost use Rattle.std.specs.Prelude.{◌≡◌, ◌≤◌, ◌<◌, ◌++◌, ◌∷◌, [], length, slice_index_or, slice_set, IfOk, IsSome};
 ghost use Rattle.class_relation.specs.Rows.{rows};
@@ -44,7 +44,7 @@ fn push_at<T: Copy + Drop>(lists: &mut Vec<Vec<T>>, place: usize, item: T)
 }
 
 impl Histories {
-    /// Nothing is completed, and each list has room for so many entries.
+    /// Empty lists, each with room for this many entries.
     pub fn new(alloc: Global, rooms: &[usize]) -> Result<Histories, NoMemory>
         ensures { IfOk result (λ histories. histories ≡ empty_histories rooms.now) }
     {

@@ -1,4 +1,4 @@
-//! What a turn came to.
+//! The result of a turn.
 
 use bus_signals::{BoardNo, LineNo};
 
@@ -10,7 +10,7 @@ pub enum Why {
     Bus { master: BoardNo },
 }
 
-/// What a turn came to: an event, nothing for now, or nothing any more.
+/// The result of a turn: an event, nothing for now, or nothing any more.
 #[derive(Clone, Copy, Debug, PartialEq, Eq)]
 pub enum Moved {
     Did,

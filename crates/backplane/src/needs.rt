@@ -1,4 +1,4 @@
-//! What the whole life of a machine takes, told of its setup before anything is taken.
+//! How much a machine needs for its whole life, computed from its setup beforehand.
 
 ghost use Rattle.std.specs.Prelude.{◌≡◌, ◌≤◌, length};
 ghost use Rattle.board.specs.Rack.{AllShapesFit, all_ways};
@@ -33,7 +33,7 @@ fn frames_of(boards: &[BoardSpec]) -> u32
     frames
 }
 
-/// What `assemble` reserves for the machine of a setup, which no run of the setup passes: eight
+/// What `assemble` reserves for the machine of a setup, which no run of the setup exceeds: eight
 /// events and one reply for each access, and a frame for each way of each set. It takes no memory
 /// and refuses nothing.
 pub fn need(setup: &Setup) -> Need

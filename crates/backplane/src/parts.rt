@@ -58,7 +58,7 @@ fn complete(places: &mut Vec<u32>, board: BoardNo)
     places[board.0 as usize - 1] += 1;
 }
 
-/// A board has completed one more access, if it did.
+/// A board has completed one more access, if it completed one.
 fn complete_if(completes: bool, places: &mut Vec<u32>, board: BoardNo)
     requires low { 1 ≤ board }
     requires high { board ≤ length places.old.items }

@@ -51,7 +51,7 @@ pub enum Plan {
     },
 }
 
-/// Whether an access leaves a line as it is: it is no write, and the state stays.
+/// Whether an access leaves a line as it is: it is not a write, and the state stays.
 pub fn is_quiet(access: &Access, before: State, after: State) -> bool
     ensures { result ≡ is_quiet access.now before after }
 {
@@ -185,7 +185,7 @@ impl Parts {
         }
     }
 
-    /// What a board is to do for a transaction: it connects it where the bus is granted to it.
+    /// What a board is to do for a transaction: it connects it if the bus is granted to it.
     fn plan_bus(&self, board: BoardNo, line: LineNo, event: BusEvent, outcome: Outcome) -> Plan
         requires { IsPartOf self.now board }
         ensures { (setup : Setup) (events : List Event) (c : Configuration) → Sound setup events c

@@ -1,4 +1,4 @@
--- What is picked of a list stands in it.
+-- What is picked from a list is in it.
 use Rattle.std.proofs.Common.{◌≡◌, ℕ, zero, suc, ◌<◌, Bool, true, false, List, [], ◌∷◌, length, get_or, refl, arith, Option, Some, None}
 use Rattle.std.specs.Prelude.{◌||◌, ◌==◌}
 use Rattle.std.specs.Bool.{beq}
@@ -40,14 +40,14 @@ same-bus (Some e) = same-number (event_number e)
 same-local : (a : LocalAction) → same_local a a ≡ true
 same-local a = rw (same-outcome a.result, same-bus a.bus) refl
 
--- An answer at a place of a list stands in it.
+-- An answer at a place of a list is in it.
 pub answer-among :
     (xs : List SnoopAction) (i : ℕ) (d : SnoopAction) → i < length xs → has_answer xs (get_or xs i d) ≡ true
 answer-among [] i d l = absurd (omega arith)
 answer-among (x ∷ xs) zero d l = rw (same-answer x) refl
 answer-among (x ∷ xs) (suc i) d l = rw (answer-among xs i d (omega arith)) (or-true _)
 
--- A local alternative at a place of a list stands in it.
+-- A local alternative at a place of a list is in it.
 pub local-among :
     (xs : List LocalAction) (i : ℕ) (d : LocalAction) → i < length xs → has_local xs (get_or xs i d) ≡ true
 local-among [] i d l = absurd (omega arith)

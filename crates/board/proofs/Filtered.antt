@@ -65,7 +65,7 @@ count-cond :
 count-cond p true f fs n h = omega arith
 count-cond p false f fs n h = omega arith
 
--- Of the frames that pass a test no more pass another than of all.
+-- Among the frames that pass a test, no more pass another test than among all frames.
 pub count-among : (p q : Frame → Bool) (fs : List Frame) → count_where p (filter q fs) ≤ count_where p fs
 count-among p q [] = omega arith
 count-among p q (f ∷ fs) = count-cond p (q f) f (filter q fs) _ (count-among p q fs)

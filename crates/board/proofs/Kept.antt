@@ -19,7 +19,7 @@ get-is [] i s l e = absurd (omega arith)
 get-is (x ∷ sets) zero s l e = ap (λ (y : LineSet). Some y) (sym e)
 get-is (x ∷ sets) (suc i) s l e = get-is sets i s (omega arith) e
 
--- What stands at a place after a change at one place: what was put there, or what stood there.
+-- The element at a place after a change at one place: what was put there, or what was there before.
 get-set : (sets : List LineSet) (i : ℕ) (y : LineSet) (k : ℕ) (s : LineSet) → slice_get (set sets i y) k ≡ Some s
     → ((k ≡ i) × (s ≡ y)) ⊎ ((k ≡ i → ⊥) × (slice_get sets k ≡ Some s))
 get-set [] i y k s e = cc
@@ -95,7 +95,7 @@ kept-with ways fs sets i line state s s' h at get e room = record {
       rw length-set (kept-with-each ways fs sets i line state s s' h at get e room k o (get-set sets i s' k o g));
 }
 
--- The other sets stand as they are.
+-- The other sets stay as they are.
 pub kept-stable :
     (ways : ℕ) (fs : List Frame) (sets : List LineSet) (i line : ℕ) (state : State) → SetsAreKept ways fs sets
     → i ≡ line % length sets

@@ -19,7 +19,7 @@ order-with k (suc n) fs line state =
     rw (filter-with (has_fill k) fs line state (λ f s. refl), order-with (suc k) n fs line state)
     (sym (with-append (filter (has_fill k) fs) (in_order (suc k) n fs) line state))
 
--- The last fill number stands at the end.
+-- The last fill number is at the end.
 order-end : (k n : ℕ) (fs : List Frame) → in_order k (suc n) fs ≡ in_order k n fs ++ filter (has_fill (k + n)) fs
 order-end k zero fs = let e : k + 0 ≡ k = omega arith in rw e (append-nil _)
 order-end k (suc n) fs =
@@ -104,7 +104,7 @@ all-only n (x ∷ sets) (suc i) s s' f h e is b =
     (none-below n x.frames (split-left n x.frames (all_in sets) b))
     ∙ all-only n sets i s s' f h e is (split-right n x.frames (all_in sets) b)
 
--- A frame that is filled at the end of its set stands last of all.
+-- A frame that is filled at the end of its set is the last of all.
 pub order-push :
     (n : ℕ) (sets : List LineSet) (i : ℕ) (s s' : LineSet) (f : Frame) → slice_get sets i ≡ Some s
     → s'.frames ≡ s.frames ++ f ∷ [] → f.fill ≡ n

@@ -1,4 +1,4 @@
--- The set of a line: what is looked up in it, changed in it and filled into it is so in all frames of the board.
+-- The set of a line: a look-up, a change or a fill in it is the same in all frames of the board.
 use Rattle.std.proofs.Common.{◌≡◌, ℕ, ◌+◌, ◌<◌, ◌≤◌, ◌%◌, Bool, true, false, cond, not, List, [], ◌∷◌, ◌++◌, length, get_or, set, refl, ap, sym, ◌∙◌, arith, add-one, Option, Some, None}
 use Rattle.std.specs.Prelude.{filter, find, slice_get, is_none, is_some, IsFalse, nat_le, ◌&&◌}
 use Rattle.std.proofs.lemmas.Bool.Decides.{nat_tests}
@@ -85,7 +85,7 @@ placed-room (Cached many ways) fs sets n line s h full =
     let less : count_where (is_in_set_of n line) fs < ways = rw e (not-full ways _ full) in
     omega arith
 
--- A state that a line's frame gets in its set, it gets among all frames.
+-- A state that a line's frame gets in its set is also its state among all frames.
 pub placed-with :
     (shape : Shape) (fs : List Frame) (sets : List LineSet) (n line fills : ℕ) (state : State) (s s' : LineSet)
     → IsPlaced shape fs sets n line s
@@ -123,7 +123,7 @@ placed-after shape fs sets n line s state words pool h =
     ap (λ (r : List Frame). pool_after r line state words pool) (own shape fs sets n line s h)
     ∙ among-after (is_of_set n (line % n)) fs line state words pool (λ f t. line-is-own n line f t)
 
--- A frame that is filled into the set of its line stands last of all frames.
+-- A frame that is filled into the set of its line is the last of all frames.
 pub placed-push :
     (shape : Shape) (fs : List Frame) (sets : List LineSet) (n fills : ℕ) (f : Frame) (s s' : LineSet)
     → IsPlaced shape fs sets n f.line s

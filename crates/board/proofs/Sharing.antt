@@ -83,7 +83,7 @@ rows-have pool ss ways h = record {
   used = λ n o. found-in (frames_of ss) n (let k = h.once n in let t = out-times pool n o in omega arith);
 }
 
--- Where a rack has a row and its pool one frame, this frame is out.
+-- Where a rack has a row and its pool has one frame, that frame is out.
 pub one-frame :
     (pool : Pool) (rows : List Row) → RowsHaveFrames pool rows → 1 ≤ length rows → length pool.out ≡ 1 → IsOut pool 0
 one-frame pool rows h some one =

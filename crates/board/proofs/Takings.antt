@@ -112,7 +112,7 @@ pub among-out : (pool : Pool) (q : Frame → Bool) (fs : List Frame) → AreOut 
 among-out pool q fs h =
     record { once = λ n. let k = h.once n in let c = count-among (has_number n) q fs in omega arith }
 
--- What changes of a pool where words change.
+-- How a pool changes when words change.
 
 -- A pool with other words in a frame, or as it was.
 abbrev pub worded : Bool → (List ℕ → List ℕ) → Frame → Pool → Pool
@@ -161,7 +161,7 @@ changed-other line words (f ∷ fs) pool n h =
     changed-other-by line words f fs pool n (is_line line f) (λ e. let c = count-own f fs n e in omega arith)
     (λ p. changed-other line words fs p n (omega arith))
 
--- What changes of a pool where frames come back.
+-- How a pool changes when frames come back.
 
 abbrev freed : Bool → Frame → Pool → Pool
 freed b f pool = cond b (with_out pool f.number false) pool
@@ -269,7 +269,7 @@ pub held-long :
 held-long line [] state e = refl
 held-long line (f ∷ fs) state e = rw e (held-long-by (is_line line f) f fs state _ (held-long line fs state e))
 
--- What only touches the frames of a line, touches no frames but those of its set.
+-- A change to the frames of one line touches only frames of its set.
 
 cond-changed :
     (b : Bool) (line : ℕ) (words : List ℕ → List ℕ) (f : Frame) (fs : List Frame) (pool : Pool)

@@ -16,11 +16,11 @@ has_number number f = f.number == number
 abbrev pub number_count : ℕ → List Frame → ℕ
 number_count number frames = count_where (has_number number) frames
 
--- 1 where the frame of this number is out, and else 0.
+-- 1 where the frame of this number is out, and otherwise 0.
 abbrev pub times_out : Pool → ℕ → ℕ
 times_out pool number = cond (slice_index_or pool.out number false) 1 0
 
--- The frames of a list are out, and no two of them are one frame.
+-- The frames of a list are out, and no two of them are the same.
 pub record AreOut (pool : Pool) (frames : List Frame) : Type 0 where
   pub once : (number : ℕ) → number_count number frames ≤ times_out pool number
 
@@ -34,7 +34,7 @@ pub record RowsHaveFrames (pool : Pool) (rows : List Row) : Type 0 where
   pub apart : AllPairs (λ a b. a ≡ b → ⊥) numbers
   pub used : (number : ℕ) → IsOut pool number → Contains numbers number
 
--- The pool and the frames of all boards, which is kept by every call: a frame that is out is the
+-- The pool fits the frames of all boards, and every call keeps this: a frame that is out is the
 -- frame of exactly one row, a frame that is free is that of none, and there are as many frames as
 -- all sets have ways.
 pub record FramesHold (pool : Pool) (frames : List Frame) (ways : ℕ) : Type 0 where

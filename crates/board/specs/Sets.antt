@@ -4,7 +4,7 @@ use Rattle.std.specs.Prelude.{◌≡◌, ℕ, zero, suc, ◌%◌, ◌≤◌, Boo
 use Rattle.bus_model.specs.Setup.{Shape, Plain, Cached}
 use Rattle.board.specs.declared.frame.Frame.{Frame}
 
--- A set, as contracts see it: its frames, and for how many there is room.
+-- A set, as contracts see it: its frames, and how many there is room for.
 pub record LineSet : Type 0 where
   pub frames : List Frame
   pub room : ℕ

@@ -13,7 +13,7 @@ use no_memory::NoMemory;
 use std::alloc::Global;
 use std::marker::Model;
 
-/// The frames of one set, in order of fill. Contracts see them, and for how many there is room.
+/// The frames of one set, in order of fill. Contracts see them and how many there is room for.
 #[derive(Drop)]
 pub struct LineSet {
     frames: Vec<Frame>,
@@ -28,7 +28,7 @@ impl Model for LineSet {
     ghost view = { λ s. record { frames = s.frames.items; room = vec_capacity s.frames } };
 }
 
-/// Gives the frames of a line a state, of which I gives them up.
+/// Gives the frames of a line a state. The state I gives them up.
 fn set_or_remove(frames: &mut Vec<Frame>, line: u32, state: State)
     ensures items { frames.new.items ≡ frames_with frames.old.items line state }
     ensures room { vec_capacity frames.new ≡ vec_capacity frames.old }
@@ -40,7 +40,7 @@ fn set_or_remove(frames: &mut Vec<Frame>, line: u32, state: State)
     }
 }
 
-/// Changes the words of a line's frames, or gives these back where they come into the state I.
+/// Changes the words of a line's frames, or gives the frames back if the new state is I.
 fn change_or_give(frames: &[Frame], pool: &mut LinePool, line: u32, state: State, how: Change)
     requires { AreOut pool.old frames.now }
     ensures { pool.new ≡ pool_after frames.now line state (changed_words how) pool.old }

@@ -1,5 +1,5 @@
-//! A board that keeps its rows in one list, words and all. The rack with its pool is compared with
-//! it.
+//! A board that keeps its rows in one list, words and all. The tests compare the rack and its pool
+//! with it.
 
 use crate::Change;
 use moesi_state::State;
@@ -92,7 +92,7 @@ impl ListedBoard {
         Ok(())
     }
 
-    /// Gives the row of a line a state and changes its words. I leaves no row.
+    /// Gives the row of a line a state and changes its words. The state I removes the row.
     pub fn change(&mut self, line: u32, state: State, change: Change) {
         for row in self.rows.iter_mut() {
             if row.line == line {

@@ -305,7 +305,7 @@ fn victim_of(rack: &Rack, board: BoardNo, line: u32) -> Option<u32>
     }
 }
 
-/// Whether a board of the rack shows what a listed board shows, of the first 8 lines.
+/// Whether a board of the rack shows the same as a listed board for the first 8 lines.
 fn shows_same(rack: &Rack, board: BoardNo, listed: &ListedBoard) -> bool
     requires { IsBoard rack.now board }
 {

@@ -1,4 +1,4 @@
--- The small runs, computed event by event, and what is no step in them.
+-- The small runs, computed event by event, and what is not a step in them.
 use Rattle.std.proofs.Common.{◌≡◌, ℕ, true, false, [], ◌∷◌, Option, Some, refl, sym, ap, ◌∙◌, inl, arith}
 use Rattle.bus_signals.specs.declared.BusEvent.TheVariants.{Rd, Rfo, Inv, Urd, Bwr}
 use Rattle.moesi_state.specs.declared.State.TheVariants.{M, O, E, S, I}
@@ -675,7 +675,7 @@ quiet_read_plays =
       );
     }
 
--- ---- what is no step
+-- ---- what is not a step
 
 pub write_waits : turn gap between_phases 1 ≡ Waits (LineHeld 2 0)
 unfolding lines_after driven_below rounds_from

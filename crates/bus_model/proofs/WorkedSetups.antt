@@ -30,7 +30,7 @@ each_tested test P says (x ∷ xs) h =
     let p = both_true (test x) (list_all test xs) h in
     All-cons P x xs (says x p.0) (each_tested test P says xs p.1)
 
--- Whether a test holds of each two elements.
+-- Whether a test holds of every two elements.
 abbrev all_pairs : {X : Type 0} → (X → X → Bool) → List X → Bool
 all_pairs test [] = true
 all_pairs test (x ∷ xs) = list_all (test x) xs && all_pairs test xs

@@ -36,8 +36,8 @@ unfoldable pub lines_after : List ℕ → ℕ → ℕ
 lines_after numbers zero = wired_lines numbers
 lines_after numbers (suc k) = next_lines numbers (lines_after numbers k)
 
--- The least number of rounds, from this one on, after which a further round changes nothing, looked
--- for this many times.
+-- The least number of rounds, from this one on, after which a further round changes nothing. At
+-- most this many are tried.
 unfoldable pub rounds_from : ℕ → ℕ → List ℕ → ℕ
 rounds_from zero k numbers = k
 rounds_from (suc tries) k numbers =

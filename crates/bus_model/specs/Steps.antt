@@ -18,7 +18,7 @@ use Rattle.bus_model.specs.Arbitration.{Wins}
 use Rattle.bus_model.specs.Connecting.{other_holders, AnswersFit}
 use Rattle.bus_model.specs.Carrying.{source_of, takers_of, states_of, source_words, written, reply_of, done_of, master_words, memory_words, answering_row, state_of_master}
 
--- Whether an access leaves a line as it is: it is no write, and the state stays.
+-- Whether an access leaves a line as it is: it is not a write, and the state stays.
 abbrev pub is_quiet : Access → State → State → Bool
 is_quiet (Access.Read a) before after = same_state before after
 is_quiet (Access.Write a value) before after = false
@@ -136,7 +136,7 @@ after_connect c t = record {
   phase = Connected t;
 }
 
--- The configuration after a board completed an access, if it did.
+-- The configuration after a board completed an access, if it completed one.
 abbrev pub complete_if : Option Done → Configuration → ℕ → Configuration
 complete_if None c board = c
 complete_if (Some done) c board = complete c board

@@ -82,7 +82,7 @@ access_turn setup c board access None =
     let action = decide setup c board access in
     action_turn setup c board access action.result action.bus
 
--- A turn of a board, by what it has still to do: without an access it is finished (case 1).
+-- A turn of a board, by what it still has to do: without an access it is finished (case 1).
 abbrev pub turn_for : Setup → Configuration → ℕ → Option Access → Turn
 turn_for setup c board None = Finished
 turn_for setup c board (Some access) =

@@ -163,7 +163,7 @@ events_of_turns setup c (board ∷ boards) =
       | Finished ↦ events_of_turns setup c boards
     ]
 
--- What is played by a schedule: first its turns, and then rounds, in which each board has one turn
+-- What a schedule plays: first its turns, and then rounds, in which each board has one turn
 -- in order.
 abbrev pub played : Setup → List ℕ → List Event
 played setup schedule =

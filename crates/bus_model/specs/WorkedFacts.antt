@@ -1,4 +1,4 @@
--- Small lines, histories and configurations of which the definitions of the theorem are computed.
+-- Small lines, histories and configurations on which the definitions of the theorem are computed.
 use Rattle.std.specs.Prelude.{ℕ, List, [], ◌∷◌, Some, None, take}
 use Rattle.bus_model.specs.Configuration.{Configuration, Granted, opening}
 use Rattle.bus_model.specs.Runs.{after_all}
@@ -24,7 +24,7 @@ abbrev pub quiet_read_entries : List Entry
 quiet_read_entries =
     entry 1 1 (read 0) (Some 0) ∷ entry 1 2 (read 0) (Some 0) ∷ entry 2 1 (read 0) (Some 0) ∷ []
 
--- The end of the intervention, but that the owner has lost its copy.
+-- The end of the intervention, except that the owner has lost its copy.
 abbrev pub lost_copy : Configuration
 lost_copy =
     record {
@@ -34,11 +34,11 @@ lost_copy =
       phase = intervention_end.phase;
     }
 
--- The intervention halfway: the write is done, and the read is not begun.
+-- The intervention halfway: the write is done, and the read has not begun.
 abbrev pub halfway : Configuration
 halfway = after_all (opening intervention) (take 4 intervention_events)
 
--- The end of the intervention, but that a board has the bus.
+-- The end of the intervention, except that a board has the bus.
 abbrev pub bus_taken : Configuration
 bus_taken =
     record {
@@ -48,7 +48,7 @@ bus_taken =
       phase = Granted 1;
     }
 
--- The bus is idle, and the boards 1 and 3, of the numbers 10 and 7, have each raised a request.
+-- The bus is idle, and boards 1 and 3, with the numbers 10 and 7, have each raised a request.
 abbrev pub both_raised : Configuration
 both_raised = after_all (opening given_up) (take 14 given_up_events)
 

@@ -103,7 +103,7 @@ victim_flush_end = record {
   phase = Idle;
 }
 
--- A request and a grant are given up by an access that needs no bus any more.
+-- A request and a grant are given up by an access that no longer needs the bus.
 abbrev pub given_up : Setup
 given_up = record {
   memory = 0 ∷ 0 ∷ 0 ∷ 0 ∷ 0 ∷ 0 ∷ 0 ∷ 0 ∷ [];

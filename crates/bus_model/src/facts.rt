@@ -1,4 +1,4 @@
-//! What the definitions of the theorem say of small lines, histories, configurations and runs.
+//! What the definitions of the theorem say about small lines, histories, configurations and runs.
 
 ghost use Rattle.std.specs.Prelude.{◌≡◌, ℕ, [], ◌∷◌, Option, None};
 ghost use Rattle.moesi_state.specs.declared.State.TheVariants.{M, O, E, S};
@@ -13,7 +13,7 @@ ghost use Rattle.bus_model.specs.WorkedRoom.{given_up, victim_flush};
 ghost use Rattle.bus_model.specs.WorkedFacts.{old_words, new_words, intervention_entries, quiet_read_entries, lost_copy, halfway, bus_taken, both_raised, owned_victim};
 
 /// An owner beside sharers is coherent, and memory may then be stale. Two owners are not, nor is a
-/// board that is to be alone beside a sharer, nor a stale copy, nor stale memory without an owner.
+/// board that must be alone beside a sharer, nor a stale copy, nor stale memory without an owner.
 pub fn small_lines_are_judged()
     ensures owner_and_sharer { LineCoherent (copy 1 0 O new_words 0 ∷ copy 2 0 S new_words 0 ∷ [])
         old_words new_words }
@@ -29,8 +29,8 @@ pub fn small_lines_are_judged()
     ensures no_stale_memory { ¬ (LineCoherent (copy 1 0 S new_words 0 ∷ []) old_words new_words) }
 {}
 
-/// No step is a silent write to a line that is held, a grant to another board than the highest, or
-/// the drop of a victim that its board owns.
+/// None of these is a step: a silent write to a line that is held, a grant to a board other than
+/// the highest, or the drop of a victim that its board owns.
 pub fn small_steps_are_judged()
     ensures no_write_to_a_held_line { ¬
         (Can gap between_phases (Local 1 E M (did (write 0 9) None))) }

@@ -12,8 +12,8 @@ ghost use Rattle.bus_model.specs.WorkedRuns.{Plays, intervention, intervention_s
 ghost use Rattle.bus_model.specs.WorkedRoom.{write_through_word, write_through_word_schedule, write_through_word_events, write_through_word_end, victim_flush, victim_flush_schedule, victim_flush_events, victim_flush_end, given_up, given_up_schedule, given_up_events, given_up_end, alternation, alternation_schedule, alternation_events, alternation_end};
 ghost use Rattle.bus_model.specs.WorkedCopies.{clean_victim, clean_victim_schedule, clean_victim_events, clean_victim_end, captured, captured_schedule, captured_events, captured_end};
 
-/// Each small run is what the turns of its schedule do, and its setup is one of which the laws
-/// speak.
+/// Each small run is what the turns of its schedule do, and its setup is one that the laws
+/// cover.
 pub fn small_runs_are_played()
     ensures intervention { Plays intervention intervention_schedule intervention_events
         intervention_end }

@@ -1,4 +1,4 @@
--- All bus events and all local events: each stands in its list, so what computes true over the list holds of every
+-- All bus events and all local events: each is in its list, so what computes true over the list holds of every
 -- event.
 use Rattle.std.proofs.Common.{◌≡◌, ◌<◌, Bool, true, ltb, Some, length, refl, sym, ap, ◌∙◌}
 use Rattle.std.specs.Prelude.{◌==◌, slice_get}
@@ -37,7 +37,7 @@ each_bus test h event = each_at test bus_events (event_number event) event h (bu
 pub any_bus : (test : BusEvent → Bool) (event : BusEvent) → test event ≡ true → list_any test bus_events ≡ true
 any_bus test event h = any_at test bus_events (event_number event) event h (bus_listed event)
 
--- And the same of local events.
+-- And the same for local events.
 pub each_local :
     (test : LocalEvent → Bool) → list_all test local_events ≡ true → (event : LocalEvent) → test event ≡ true
 each_local test h event = each_at test local_events (local_number event) event h (local_listed event)
@@ -48,7 +48,7 @@ any_local test event h = any_at test local_events (local_number event) event h (
 some_same : {X : Type 0} (x y : X) → Some x ≡ Some y → x ≡ y
 some_same x y h = cc
 
--- Events of one number are the same.
+-- Events with the same number are the same.
 pub same_event-eq : (a b : BusEvent) → same_event a b ≡ true → a ≡ b
 same_event-eq a b h =
     some_same a b (sym (bus_listed a) ∙ ap (λ n. slice_get bus_events n) (eqb-true (event_number a) (event_number b) h)

@@ -1,4 +1,4 @@
--- Finite lists: what computes true at each element of a list holds at all that the list has.
+-- Finite lists: a test that computes true at each element of a list holds for all that the list has.
 use Rattle.std.proofs.Common.{◌≡◌, ℕ, zero, suc, Bool, true, false, ◌&&◌, ◌||◌, List, [], ◌∷◌, Some, refl, subst}
 use Rattle.std.specs.Prelude.{slice_get}
 use Rattle.std.specs.List.{list_all, list_any}
@@ -19,7 +19,7 @@ or_right : (a b : Bool) → b ≡ true → (a || b) ≡ true
 or_right true b h = refl
 or_right false b h = h
 
--- A test that passes at each element of a list passes at the element of any number.
+-- A test that passes at each element of a list passes at the element with any number.
 pub each_at :
     {X : Type 0} (test : X → Bool) (xs : List X) (n : ℕ) (x : X) → list_all test xs ≡ true → slice_get xs n ≡ Some x
     → test x ≡ true
@@ -28,7 +28,7 @@ each_at test (y ∷ xs) zero x h at =
     let same : y ≡ x = cc in subst (λ z. test z ≡ true) same (and_left (test y) (list_all test xs) h)
 each_at test (y ∷ xs) (suc n) x h at = each_at test xs n x (and_right (test y) (list_all test xs) h) at
 
--- A test that passes at the element of some number passes somewhere in the list.
+-- A test that passes at the element with some number passes somewhere in the list.
 pub any_at :
     {X : Type 0} (test : X → Bool) (xs : List X) (n : ℕ) (x : X) → test x ≡ true → slice_get xs n ≡ Some x
     → list_any test xs ≡ true

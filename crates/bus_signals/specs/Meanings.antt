@@ -34,33 +34,33 @@ writes_line event = same_transfer (row_of event).transfer Transfer.Line
 abbrev pub fills_row : BusEvent → Bool
 fills_row event = reads event && keeps_copy event
 
--- A plain word goes to the board that asserts DI, or else to memory: a word without BC.
+-- A plain word, one without BC, goes to the board that asserts DI, or else to memory.
 abbrev pub writes_plain_word : BusEvent → Bool
 writes_plain_word event = writes_word event && not (broadcasts event)
 
--- A word goes past the master's cache where it is written without CA.
+-- A word bypasses the master's cache where it is written without CA.
 abbrev pub writes_past_cache : BusEvent → Bool
 writes_past_cache event = writes_word event && not (keeps_copy event)
 
--- The master owns the line afterwards, and a former owner does not, where CA and IM stand together.
+-- Where both CA and IM are asserted the master owns the line afterwards, and no former owner does.
 abbrev pub takes_ownership : BusEvent → Bool
 takes_ownership event = keeps_copy event && changes_line event
 
--- Every other copy goes where CA and IM stand without BC.
+-- Every other copy goes where CA and IM are asserted without BC.
 abbrev pub invalidates : BusEvent → Bool
 invalidates event = takes_ownership event && not (broadcasts event)
 
--- The master's outcome may wait for CH where CA stands, and IM stands with BC or not at all.
+-- The master's outcome may wait for CH where CA is asserted, and IM only together with BC.
 abbrev pub asks_hit : BusEvent → Bool
 asks_hit event = keeps_copy event && (not (changes_line event) || broadcasts event)
 
--- Another board can stay alone with the line where the master keeps no copy and does not write the
--- line back: without CA, and where the transfer is no line.
+-- Another board can remain the only holder of the line where the master keeps no copy and does not
+-- write the line back: CA is not asserted, and the transfer is not a line.
 abbrev pub keeps_alone : BusEvent → Bool
 keeps_alone event = not (keeps_copy event) && not (writes_line event)
 
--- Another board that owns the line stays its owner where the master neither takes the line for its
--- own nor writes it back.
+-- Another board that owns the line stays its owner where the master neither takes ownership of the
+-- line nor writes it back.
 abbrev pub spares_owner : BusEvent → Bool
 spares_owner event = not (takes_ownership event) && not (writes_line event)
 

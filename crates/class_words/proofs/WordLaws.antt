@@ -1,4 +1,4 @@
--- Each word is what its value is written as, and what a value is written as is read as the value.
+-- Each value is written as its word, and the word is read as the value.
 use Rattle.std.proofs.Common.{◌≡◌, ℕ, Bool, true, false, cond, List, [], ◌∷◌, ◌++◌, length, take, drop, eqb, ◌&&◌, Option, Some, None, refl, sym, ap, subst, ◌∙◌, append_assoc, arith}
 use Rattle.std.specs.Prelude.{codes}
 use Rattle.std.specs.Option.{option_map}
@@ -171,7 +171,7 @@ outcome_again (OnHit I I) = refl
 
 -- ---- both ways at once
 
--- What reads each written word as its value, and any word that it reads as that value alone.
+-- A reader that reads each written word as its value, and reads no other word as that value.
 both_ways :
     {A : Type 0} (spelled : A → List ℕ) (f : List ℕ → Option A) → ((w : List ℕ) (x : A) → f w ≡ Some x → w ≡ spelled x)
     → ((x : A) → f (spelled x) ≡ Some x) → (w : List ℕ) (r : Option A) → r ≡ f w → Reads spelled w r

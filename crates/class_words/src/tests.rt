@@ -5,7 +5,7 @@ use bus_signals::{BusEvent, LocalEvent};
 use moesi_state::{Outcome, State};
 
 #[test]
-fn words_are_read_and_written(rt: HostRuntime) {
+fn states_are_read_and_written(rt: HostRuntime) {
     let states = [
         (State::M, "M"),
         (State::O, "O"),
@@ -18,6 +18,10 @@ fn words_are_read_and_written(rt: HostRuntime) {
         assert_eq!(rt; state_of(word.as_bytes()), Some(state));
         assert_eq!(rt; outcome_of(word.as_bytes()), Some(Outcome::Fixed(state)));
     }
+}
+
+#[test]
+fn events_are_read_and_written(rt: HostRuntime) {
     let local = [
         (LocalEvent::Read, "read"),
         (LocalEvent::Write, "write"),
@@ -44,6 +48,10 @@ fn words_are_read_and_written(rt: HostRuntime) {
         assert_eq!(rt; bus_event_text(event), word);
         assert_eq!(rt; bus_event_of(word.as_bytes()), Some(event));
     }
+}
+
+#[test]
+fn outcomes_are_read(rt: HostRuntime) {
     let hit = State::S;
     let miss = State::E;
     assert_eq!(rt; outcome_of(b"CH:S/E"), Some(Outcome::OnHit { hit, miss }));

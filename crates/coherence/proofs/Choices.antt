@@ -6,7 +6,7 @@ use Rattle.std.specs.Prelude.{IsTrue, IsFalse}
 abbrev pub Known : Type 0 → Type 0
 Known P = P ⊎ (P → ⊥)
 
--- A fact is known where another is that comes to the same.
+-- A fact is decided where an equivalent one is.
 pub known_as : {P Q : Type 0} → (P → Q) → (Q → P) → Known P → Known Q
 known_as f g (inl p) = inl (f p)
 known_as f g (inr n) = inr (λ q. n (g q))

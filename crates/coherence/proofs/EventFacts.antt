@@ -1,4 +1,4 @@
--- What follows from what for the rows of bus events, computed over the list of all events.
+-- What the rows of bus events imply, computed over the list of all events.
 use Rattle.bus_signals.specs.declared.BusEvent.{BusEvent}
 use Rattle.bus_signals.specs.Meanings.{broadcasts, fills_row, reads, serves_owner, spares_owner, takes_ownership, writes_line, writes_past_cache, writes_plain_word}
 use Rattle.bus_signals.proofs.Events.{each_bus}
@@ -22,7 +22,7 @@ filling_reads : (event : BusEvent) → fills_row event ≡ true → reads event 
 filling_reads event =
     implies-use (fills_row event) (reads event) (each_bus (λ event. implies (fills_row event) (reads event)) refl event)
 
--- The source of a transaction that reads or not.
+-- The source of a transaction that reads, or that does not.
 source_by :
     (reading : Bool) (answers : List Answer) → reading ≡ true
     → (if reading then intervener_or_memory (intervener answers) else Nobody)

@@ -15,7 +15,7 @@ use bus_signals::{BoardNo, BusEvent, LineNo, Response, wired};
 use journal::{Answer, Answers, Connected};
 use moesi_state::Outcome;
 
-/// Whether another board than the master holds a line.
+/// Whether a board other than the master holds a line.
 pub fn is_other_holder(rack: &Rack, master: BoardNo, line: LineNo, board: BoardNo) -> bool
     requires { IsBoard rack.now board }
     ensures { result ≡ is_other_holder rack.now.rows master line board }
@@ -24,7 +24,7 @@ pub fn is_other_holder(rack: &Rack, master: BoardNo, line: LineNo, board: BoardN
     board.0 != master.0 && held
 }
 
-/// Takes the answer of a board, where it is another board than the master and holds the line.
+/// Takes the answer of a board, if the board is not the master and holds the line.
 fn ask(
     rack: &Rack,
     master: BoardNo,
@@ -123,7 +123,7 @@ pub fn response(connected: &Connected) -> Response
     all
 }
 
-/// The board that asserts DI. Where several do it is the first.
+/// The board that asserts DI, or the first of them if several do.
 pub fn intervener(connected: &Connected) -> Option<BoardNo>
     ensures { result ≡ intervener connected.now.answers }
 {

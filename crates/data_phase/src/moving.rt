@@ -17,7 +17,7 @@ use bus_signals::{Access, Addr, BoardNo, LineNo};
 use journal::{Answer, Carried, Connected, Done, Source};
 use memory_board::MemoryBoard;
 
-/// The words at the source of a transaction. Where nobody gives words they are those of the master.
+/// The words at the source of a transaction. If nobody gives words, they are the master's.
 fn moved_words(rack: &Rack, memory: &MemoryBoard, connected: &Connected) -> [u32; 4]
     requires master { IsBoard rack.now connected.now.master }
     requires line { 4 * connected.now.line < length memory.now }
@@ -39,7 +39,7 @@ fn number_of(addr: Addr) -> u32
     addr.0
 }
 
-/// What an access makes of the words of its line.
+/// How an access changes the words of its line.
 fn change_by(access: &Access) -> Change
     ensures { result ≡ change_by access.now }
 {
@@ -49,7 +49,7 @@ fn change_by(access: &Access) -> Change
     }
 }
 
-/// What an access that was completed makes of the words of its line.
+/// How a completed access changes the words of its line.
 fn change_of(done: &Option<Done>) -> Change
     ensures { result ≡ change_of done.now }
 {
@@ -67,7 +67,7 @@ fn is_taker(takers: &[BoardNo], board: BoardNo) -> bool
     takers.iter().any(|taker| taker.0 == number)
 }
 
-/// What becomes of the words of an answering board.
+/// How the words of an answering board change.
 fn change_for(takers: &[BoardNo], change: Change, board: BoardNo) -> Change
     ensures { result ≡ change_for takers.now change board }
 {
@@ -105,7 +105,7 @@ fn own_words(rack: &Rack, connected: &Connected, moved: [u32; 4], done: &Option<
     }
 }
 
-/// Memory takes the master's line, or the written word, where it takes at all.
+/// Memory takes the master's line, or the written word, if it takes anything.
 fn remember(
     memory: &mut MemoryBoard,
     connected: &Connected,
@@ -134,7 +134,7 @@ fn remember(
     }
 }
 
-/// What the data phase of a transaction is to say. `access` is as for `transfer`.
+/// The data phase that a transaction must have. `access` is as for `transfer`.
 pub fn expected(
     rack: &Rack,
     memory: &MemoryBoard,

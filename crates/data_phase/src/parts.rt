@@ -1,4 +1,4 @@
-//! What a data phase says: where words come from, who takes them, and the new states.
+//! The parts of a data phase: where words come from, who takes them, and the new states.
 
 ghost use Rattle.std.specs.Prelude.{◌≡◌, ◌*◌, ◌<◌, [], length, slice_set};
 ghost use Rattle.bus_model.specs.Configuration.{lines_of_words, memory_line, words_at};
@@ -134,7 +134,7 @@ pub fn written(access: &Access, words: [u32; 4]) -> [u32; 4]
     }
 }
 
-/// A line after the access that a data phase completed, if it did.
+/// A line after the access that a data phase completed, if it completed one.
 pub fn written_by(done: &Option<Done>, words: [u32; 4]) -> [u32; 4]
     ensures { result ≡ written_by done.now words }
 {

@@ -86,7 +86,7 @@ empty_or_last {X} (x ∷ xs) = elim (empty_or_last xs) [
   | inr h ↦ inr (x ∷ h.0, h.1, ap (λ (v : List X). x ∷ v) h.2)
 ]
 
--- a word that stands last stands last on its line
+-- a word that comes last in a list comes last on its line
 pub last_word :
     (earlier : List Words) (front : Words) (xs : List Item) (w : List ℕ)
     → lines_items earlier ++ map word front ≡ xs ++ word w ∷ [] → (p : Words) × (front ≡ p ++ w ∷ [])

@@ -28,7 +28,7 @@ pub whole_class_made :
     with_answer_rows (with_local_rows (empty_table (codes "class")) CLASS_LOCALS) CLASS_ANSWERS ≡ whole_class
 whole_class_made = refl
 
--- A result that is one table is the other, where the two are the same.
+-- A result that equals one of two equal tables equals the other.
 pub is_made :
     {E : Type 0} (result : Result Table E) (made known : Table) → made ≡ known → IfOk result (λ table. table ≡ made)
     → IfOk result (λ table. table ≡ known)

@@ -30,7 +30,7 @@ abbrev pub with_access : List (List Access) → ℕ → Access → List (List Ac
 with_access scripts index access =
     slice_set scripts index (slice_index_or scripts index [] ++ access ∷ [])
 
--- The scripts of sixteen boards after so many accesses were dealt, one to each board in turn.
+-- The scripts of sixteen boards after this many accesses were dealt, one to each board in turn.
 unfoldable pub dealt : ℕ → ℕ → List (List Access)
 dealt n zero = replicate 16 []
 dealt n (suc j) = with_access (dealt n j) (j % 16) (generated_access n j)

@@ -4,18 +4,18 @@ use Rattle.rand_pcg.specs.Lcg.{Lcg}
 use Rattle.rand_pcg.specs.Pcg.{pcg32}
 use Rattle.bus_model.specs.Turns.{seeded_word}
 
--- So many turns, each by one word of the seed, from the word of this index on.
+-- This many turns, each drawn from one word of the seed, starting at the word of this index.
 abbrev pub turns_from : ℕ → ℕ → ℕ → ℕ → List ℕ
 turns_from n boards index zero = []
 turns_from n boards index (suc turns) =
     (1 + seeded_word n index % boards) ∷ turns_from n boards (suc index) turns
 
--- The seeded schedule of a number, for a setup with so many boards and accesses: sixteen turns for
--- each access.
+-- The seeded schedule of a number, for a setup with this many boards and accesses: sixteen turns
+-- for each access.
 abbrev pub seeded_turns : ℕ → ℕ → ℕ → List ℕ
 seeded_turns n boards accesses = turns_from n boards 0 (16 * accesses)
 
--- So many turns, each by the next word of a generator.
+-- This many turns, each drawn from the next word of a generator.
 abbrev pub turns_of : Lcg → ℕ → ℕ → List ℕ
 turns_of generator boards zero = []
 turns_of generator boards (suc turns) =

@@ -29,8 +29,8 @@ impl Model for SeededTurns {
 }
 
 impl SeededTurns {
-    /// The seeded schedule of a number, for a setup with so many boards and accesses: 16 turns for
-    /// each access.
+    /// The seeded schedule of a number, for a setup with this many boards and accesses: 16 turns
+    /// for each access.
     pub fn new(n: u64, boards: u8, accesses: u32) -> SeededTurns
         requires { 1 ≤ boards }
         ensures turns { result ≡ seeded_turns n boards accesses }

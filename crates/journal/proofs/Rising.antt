@@ -11,7 +11,7 @@ pub rises-push : (xs : List ℕ) (n : ℕ) → RisesAfterFirst xs → IsAboveRes
 rises-push [] n rising above = tt
 rises-push (x ∷ rest) n rising above = rising-push rest n rising above
 
--- The same of the parts of items that a function gives.
+-- The same for the parts of items that a function gives.
 pub rising-map-push :
     {X : Type 0} (f : X → ℕ) (xs : List X) (x : X) → IsRising (map f xs) → IsAboveLast (map f xs) (f x)
     → IsRising (map f (xs ++ x ∷ []))

@@ -36,7 +36,7 @@ impl Model for Answers {
     ghost invariant = { λ a. (a.len ≤ 15) × IsRising (answer_boards (take a.len a.items)) };
 }
 
-/// What stands where no answer was pushed yet.
+/// What fills the places where no answer has been pushed yet.
 fn no_answer() -> Answer {
     Answer {
         board: BoardNo(0),
@@ -52,7 +52,7 @@ fn no_answer() -> Answer {
 }
 
 impl Answers {
-    /// No answer.
+    /// No answers.
     pub fn new() -> Answers
         ensures { result ≡ [] }
     {
@@ -81,7 +81,7 @@ impl Answers {
         &self.items[..self.len as usize]
     }
 
-    /// The same answers again.
+    /// A copy of the answers.
     pub fn copy(&self) -> Answers
         ensures { result ≡ self.now }
     {

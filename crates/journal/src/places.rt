@@ -25,7 +25,7 @@ impl Model for Places {
 }
 
 impl Places {
-    /// No board.
+    /// No boards.
     pub fn new() -> Places
         ensures { result ≡ [] }
     {

@@ -30,7 +30,7 @@ impl Model for States {
 }
 
 impl States {
-    /// No board.
+    /// No boards.
     pub fn new() -> States
         ensures { result ≡ [] }
     {
@@ -40,7 +40,7 @@ impl States {
         }
     }
 
-    /// Appends a board that is above the last one. The first does not count for this.
+    /// Appends a board that is above the last one, not counting the first.
     pub fn push(&mut self, item: (BoardNo, State))
         requires room { length self.old < 16 }
         requires above { IsAboveRest (state_boards self.old) item.0 }

@@ -1,4 +1,4 @@
--- How many are out, after one more is or one fewer.
+-- How many frames are out, after one more is taken or one is given back.
 use Rattle.std.proofs.Common.{◌≡◌, ℕ, zero, suc, ◌+◌, ◌<◌, Bool, true, false, List, [], ◌∷◌, length, replicate, refl, arith}
 use Rattle.std.specs.Prelude.{slice_index_or, slice_set}
 use Rattle.line_pool.specs.Pools.{count_out}
@@ -21,7 +21,7 @@ pub count_none : (n : ℕ) → count_out (replicate n false) ≡ 0
 count_none zero = refl
 count_none (suc n) = let rest = count_none n in omega (arith, rest)
 
--- Where each is out, as many are out as there are.
+-- Where every frame is out, as many are out as there are frames.
 pub count_all :
     (xs : List Bool) → ((i : ℕ) → i < length xs → slice_index_or xs i false ≡ true) → count_out xs ≡ length xs
 count_all [] each = refl

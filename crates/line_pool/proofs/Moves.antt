@@ -8,7 +8,7 @@ use Rattle.line_pool.specs.Kept.{IsKept, out_of}
 use Rattle.line_pool.proofs.Counts.{count_taken, count_given}
 use Rattle.line_pool.proofs.Orders.{out_at, out_taken, out_given}
 
--- The pool that is kept so.
+-- The pool that is kept in this way.
 abbrev pub shown : List ℕ → List (List ℕ) → ℕ → Pool
 shown place words free = record { out = out_of place free; words = words }
 
@@ -95,7 +95,7 @@ module _ (order place : List ℕ) (words : List (List ℕ)) (free : ℕ) (kept :
             ∙ le-leb free (slice_index place frame) (omega (arith, none));
       }
 
--- An element that is there does not depend on what stands for none.
+-- An element that is there does not depend on the default for a missing one.
 pub same_element : (xs : List ℕ) (i d : ℕ) → i < length xs → slice_index_or xs i d ≡ slice_index xs i
 same_element [] i d h = absurd (omega arith)
 same_element (x ∷ xs) zero d h = refl

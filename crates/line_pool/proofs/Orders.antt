@@ -19,7 +19,7 @@ module _ (order place : List ℕ) (is : IsOrder order place) where
   place_other frame other h k differ same =
       differ (sym (is.frame_at_place frame h) ∙ ap (slice_index order) same ∙ is.frame_at_place other k)
 
-  -- Where one place fewer is free, the frame there is out besides.
+  -- With one free place fewer, the frame at that place is out too.
   pub out_taken :
       (free : ℕ) → 0 < free → free ≤ length order
       → out_of place (free - 1) ≡ slice_set (out_of place free) (slice_index order (free - 1)) true
@@ -82,8 +82,8 @@ module _ (order place : List ℕ) (is : IsOrder order place) where
                       below (inr h) = absurd (other (omega (arith, h, less)))
                   by (inr more) = le-leb (free - 1) p (omega (arith, more)) ∙ sym (le-leb free p more)
 
-  -- Where a frame that is out comes to the first place of those that are out, and one place more is free, it is not out
-  -- any more.
+  -- Where a frame that is out moves to the first place of those that are out, and one more place is free, it is no
+  -- longer out.
   pub out_given :
       (free frame : ℕ) → free ≤ slice_index place frame → frame < length order → free < length order
       → out_of (slice_set (slice_set place (slice_index order free) (slice_index place frame)) frame free) (free + 1)
@@ -192,7 +192,7 @@ module _ (order place : List ℕ) (is : IsOrder order place) where
 
 -- ---- the first order
 
--- Each frame stands at the place of its own number.
+-- Each frame is at the place of its own number.
 abbrev pub IsNumbered : List ℕ → ℕ → Type 0
 IsNumbered xs n = (i : ℕ) → i < n → slice_index xs i ≡ i
 

@@ -11,7 +11,7 @@ pub record IsOrder (order place : List ℕ) : Type 0 where
   pub frame_at_place :
       (frame : ℕ) → frame < length order → slice_index order (slice_index place frame) ≡ frame
 
--- Which frames are out, where so many come first that are free.
+-- Which frames are out, where this many free ones come first.
 abbrev pub out_of : List ℕ → ℕ → List Bool
 out_of place free = map (λ p. nat_le free p) place
 

@@ -17,7 +17,7 @@ pub fn first_order(alloc: Global, frames: u32) -> Result<Vec<u32>, AllocError>
     Ok(order)
 }
 
-/// Moves a frame to this place, and the frame that was there to where the other was.
+/// Swaps a frame with the one at this place.
 pub fn move_frame(order: &mut Vec<u32>, place: &mut Vec<u32>, frame: usize, to: usize)
     requires order { IsOrder order.old.items place.old.items }
     requires frame { frame < length order.old.items }

@@ -44,7 +44,7 @@ impl Model for LinePool {
 }
 
 /// Each frame of a pool is free or out, and none is both. A frame is free while fewer are out than
-/// there are.
+/// there are in the pool.
 pub fn frames_are_free_or_out()
     ensures either { (pool : Pool) (frame : ℕ) → frame < length pool.out
         → IsFree pool frame ⊎ IsOut pool frame }
@@ -52,7 +52,7 @@ pub fn frames_are_free_or_out()
     ensures some_free { (pool : Pool) → count_out pool.out < length pool.out → ¬ (AllOut pool) }
 {}
 
-/// A pool with its memory, which may not be there.
+/// Allocates a pool whose frames are all free. Fails where memory runs out.
 fn made(alloc: Global, frames: u32) -> Result<LinePool, AllocError>
     requires { frames ≤ 4096 }
     ensures { IfOk result (λ pool. pool ≡ all_free frames) }

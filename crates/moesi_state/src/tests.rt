@@ -1,4 +1,4 @@
-//! What the five states say, and how outcomes settle.
+//! What the five states mean, and how outcomes settle.
 
 use super::*;
 

@@ -69,7 +69,7 @@ all_rounds before now so complete bounded rounds enough =
     ∙ ap (after_turns before)
     (sym (repeated-more so.rounds (rounds - so.rounds) places) ∙ ap (λ (n : ℕ). repeated n places) left)
 
--- A schedule and then rounds are what is played.
+-- Playing is a schedule and then rounds.
 pub whole : (opened mid last : Machine) (schedule : List ℕ) → opened.journal ≡ [] → mid ≡ after_turns opened schedule
     → last ≡ after_turns mid (repeated (8 * access_count mid.setup) (board_places mid.setup))
     → last ≡ record { setup = opened.setup; journal = played opened.setup schedule }

@@ -5,7 +5,7 @@ use Rattle.bus_model.specs.Setup.{board_places}
 use Rattle.backplane.specs.Machine.{Machine}
 use Rattle.backplane.specs.Moves.{after_turns}
 
--- A machine is what some rounds make of another, and each of them had an event.
+-- Some rounds, each of which had an event, lead from one machine to another.
 pub record AfterRounds (before now : Machine) : Type 0 where
   pub rounds : ℕ
   pub machine : now ≡ after_turns before (repeated rounds (board_places before.setup))

@@ -62,8 +62,8 @@ pub fn play(machine: &mut Machine, schedule: &[u8])
     finish(machine);
 }
 
-/// Plays the seeded schedule of a number from the opening, as `play` does. The number of accesses
-/// over all scripts is told.
+/// Plays the seeded schedule of a number from the opening, as `play` does. `accesses` is the
+/// number of accesses over all scripts.
 pub fn play_seeded(machine: &mut Machine, seed: u64, accesses: u32)
     requires opening { machine.old.journal ≡ [] }
     requires accesses { accesses ≡ access_count machine.old.setup }

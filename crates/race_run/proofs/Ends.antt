@@ -196,7 +196,7 @@ goes_on_from earlier journal on = record {
       ∙ ap (λ (es : List Event). es ++ events_of on.more) (events-made earlier);
 }
 
--- A journal that goes on from one that goes on from another goes on from that one.
+-- Going on from a journal is transitive.
 pub further :
     (first second third : List Event) → GoesOnFrom first second → GoesOnFrom second third → GoesOnFrom first third
 further first second third on then = record {

@@ -102,7 +102,7 @@ module _ (setup : Setup) (c : Configuration) (board : ℕ) where
   own_access access (Some t) e = own_master c.phase t e
   own_access access None e = let action = decide setup c board access in own_action access action.result action.bus
 
-  -- A turn is told as finished exactly where there is nothing to do.
+  -- A turn is reported as finished exactly where there is nothing to do.
   pub at_end : Moved.Finished ≡ told (turn setup c board) → present_access setup c.boards board ≡ None
   at_end = go (present_access setup c.boards board)
     where
@@ -276,7 +276,7 @@ finished setup before after who is =
     is.history ∙ ap (λ o. history_after before who (turn_for setup (reached setup before) who o)) none in
     subst (λ (h : List (ℕ × Event)). IsAtEnd setup h who) (sym same) none
 
--- The same of what the seat has seen.
+-- The same for what the seat has seen.
 pub ended :
     (setup : Setup) (who : ℕ) (answer : Moved) (seen mine later_seen later_mine : List (ℕ × Event))
     → answer ≡ Moved.Finished

@@ -33,7 +33,7 @@ pub record IsThrough (setup : Setup) (seat : Seat) : Type 0 where
   pub ended : IsAtEnd setup (seen seat) (number seat)
   pub history : IsHistory setup (seen seat)
 
--- The same of a seat of a machine that is shared.
+-- The same for a seat of a machine that is shared.
 abbrev pub IsDone : Shared → Seat → Type 0
 IsDone shared seat = IsThrough (setup_of shared) seat
 
@@ -47,7 +47,7 @@ pub record IsLater (before after : Seat) : Type 0 where
 abbrev pub HasWorked : Shared → Seat → Type 0
 HasWorked shared seat = IsDone shared seat ⊎ (turns seat ≡ 2 ^ 40)
 
--- Each seat stands in its place in the list, later.
+-- Each seat is at its place in the list, later.
 abbrev pub AreLater : List Seat → List Seat → Type 0
 AreLater before after =
     (k : ℕ) (d : Seat) → k < length before

@@ -7,19 +7,19 @@ use std::sync::atomic::{AtomicU64, Ordering};
 use std::thread::Parker;
 use std::time::Duration;
 
-// So many workers have a place.
+// How many workers have a place.
 const PLACES: u64 = 2;
 
-// A worker gives its place on after so many events.
+// A worker passes on its place after this many events.
 const SHARE: u32 = 240;
 
-// A worker without a place makes so many turns after each rest.
+// A worker without a place makes this many turns after each rest.
 const VISIT: u32 = 2;
 
-// A rest ends after so many milliseconds even if nobody rings.
+// A rest ends after this many milliseconds even if nobody rings.
 const LONGEST_REST: u64 = 10;
 
-// A worker with a place pauses after so many turns in a row that waited.
+// A worker with a place pauses after this many turns in a row that waited.
 const MOST_WAITS: u32 = 64;
 
 // A pause in microseconds.
@@ -183,7 +183,7 @@ impl Bells {
         pace.visit = pace.visit.saturating_sub(1);
     }
 
-    // A worker whose share is over gives its place on.
+    // A worker whose share is over passes on its place.
     fn after_event(&self, board: BoardNo, pace: &mut Pace) {
         pace.waits = 0;
         pace.events = pace.events.saturating_add(1);
@@ -198,7 +198,7 @@ impl Bells {
         self.call(master_of(why));
     }
 
-    // A worker that ends gives its place on, or leaves it free.
+    // A worker that ends passes on its place, or leaves it free.
     fn after_end(&self, board: BoardNo, pace: &mut Pace) {
         if pace.has_place && !self.give_place_on(board) {
             self.free.fetch_add(1, Ordering::SeqCst);

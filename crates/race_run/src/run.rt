@@ -52,7 +52,7 @@ fn open(
     }
 }
 
-// All seats of a list are worked.
+// Works all seats of a list.
 fn work_each<G: Gate + Sync, R: Threads + Wait + Sync>(
     rt: &R,
     shared: &Ruled<Racing>,

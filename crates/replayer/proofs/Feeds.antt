@@ -1,4 +1,4 @@
--- What stands before the first line feed of a text.
+-- The bytes before the first line feed of a text.
 use Rattle.std.proofs.Common.{◌≡◌, ℕ, ◌+◌, ◌<◌, ◌≤◌, Bool, true, false, cond, List, [], ◌∷◌, ◌++◌, Some, None, length, take, drop, refl, sym, ap, ◌∙◌, arith, suc, subst}
 use Rattle.std.specs.Prelude.{not, nat_lt}
 use Rattle.std.specs.List.{position, position_or_len}

@@ -1,4 +1,4 @@
--- One answer alone says what holds of a trace.
+-- Only one answer is right about a trace.
 use Rattle.std.proofs.Common.{◌≡◌, ℕ, ◌+◌, List, [], ◌∷◌, ◌++◌, Option, Some, None, length, refl, sym, ap, ◌∙◌, arith}
 use Rattle.std.specs.Prelude.{Ok, Err}
 use Rattle.std.specs.List.{AllByRecursion}
@@ -69,7 +69,7 @@ no_step_told machine number event rest in_range not =
     ∙ ap (λ (o : Option Event). by_event step machine Err (λ next. outcome step close next (number + 1) rest) number o)
     (sym (event_spelled (text_of_event event) event in_range refl))
 
--- An answer that says what holds is the outcome.
+-- The answer that is right is the outcome.
 pub only : (setup : Setup) (lines : List Line) → IsOnlyAnswer setup lines (outcome step close (opened setup) 1 lines)
 only setup lines (Ok m) says =
     let same : record { setup = setup; journal = m.journal } ≡ m =

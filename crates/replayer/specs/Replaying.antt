@@ -38,6 +38,6 @@ close machine = accepted machine (lowest_unfinished machine)
 
 -- What replaying a trace on a machine comes to: the machine after its events, where each line
 -- before the first `end` is the line of a step and no board is unfinished then. Else it is the
--- fault of the first line that is none, or the lowest unfinished board.
+-- fault of the first line that is no step, or the lowest unfinished board.
 abbrev pub replayed : Machine → List ℕ → Result Machine ReplayFault
 replayed machine text = lines.replayed step close machine text

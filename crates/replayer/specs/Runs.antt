@@ -25,14 +25,14 @@ pub record AreCompleteRun (setup : Setup) (lines : List Line) (events : List Eve
   pub run : BeginWithRun setup lines events []
   pub complete : Complete setup (configuration_after setup events)
 
--- The line of this number stands after the lines of a run, and is the line of no event.
+-- The line of this number comes after the lines of a run, and is the line of no event.
 pub record IsMisspelled (setup : Setup) (lines : List Line) (number : ℕ) (events : List Event)
     (line : Line) (rest : List Line) : Type 0 where
   pub run : BeginWithRun setup lines events (line ∷ rest)
   pub counted : number ≡ length events + 1
   pub unspelled : (event : Event) → InRange event → line ≢ closed_line (text_of_event event)
 
--- The line of this number stands after the lines of a run, and is that of an event that may not
+-- The line of this number comes after the lines of a run, and is that of an event that may not
 -- happen after them.
 pub record IsNoStep (setup : Setup) (lines : List Line) (number : ℕ) (events : List Event)
     (event : Event) (rest : List Line) : Type 0 where
@@ -65,7 +65,7 @@ Accepts setup lines answer =
     (events : List Event) → AreCompleteRun setup lines events
     → answer ≡ Ok (record { setup = setup; journal = events })
 
--- No other answer says what holds of these lines and of the runs of a setup.
+-- No other answer is right about these lines and the runs of a setup.
 abbrev pub IsOnlyAnswer : Setup → List Line → Result Machine ReplayFault → Type 0
 IsOnlyAnswer setup lines answer =
     (other : Result Machine ReplayFault) → Says setup lines other → other ≡ answer

@@ -1,5 +1,5 @@
--- What a trace comes to on something that takes events: of each event, `step` says what it leads
--- to, where it is a step.
+-- The result of a trace on something that takes events: `step` says what each event leads to, if
+-- it is a step.
 use Rattle.std.specs.Prelude.{ℕ, ◌+◌, nat_le, List, [], ◌∷◌, ◌++◌, length, Option, Some, None, Result, Err, if◌then◌else◌}
 use Rattle.journal.specs.declared.event.Event.{Event}
 use Rattle.replayer.specs.declared.fault.ReplayFault.{ReplayFault}
@@ -17,8 +17,8 @@ abbrev pub by_event :
 by_event step m refuse go number None = refuse (Spelling number)
 by_event step m refuse go number (Some event) = by_step refuse go number (step m event)
 
--- What these lines come to, of which the first has this number: where all are steps, what `close`
--- says of the end, and else the fault of the first line that is none.
+-- The result of these lines, the first of which has this number: where all are steps, what `close`
+-- says of the end, and otherwise the fault of the first line that is no step.
 abbrev pub outcome :
     {M : Type 0} → (M → Event → Option M) → (M → Result M ReplayFault) → M → ℕ → List Line
     → Result M ReplayFault
@@ -54,7 +54,7 @@ abbrev pub at_open : {M : Type 0} → M → ℕ → List ℕ → Place M
 at_open m number bytes =
     if nat_le (length bytes) longest then reading m number bytes else refused (Spelling number)
 
--- Where these lines leave their reader, of which the first has this number.
+-- Where these lines, the first of which has this number, leave their reader.
 abbrev pub follow : {M : Type 0} → (M → Event → Option M) → M → ℕ → List Line → Place M
 follow step m number [] = reading m number []
 follow step m number (line ∷ lines) =
@@ -72,7 +72,7 @@ fed step (reading m number unfinished) piece = follow step m number (lines_of (u
 fed step (ended m) piece = ended m
 fed step (refused fault) piece = refused fault
 
--- What a text comes to that ends here.
+-- The result of a text that ends here.
 abbrev pub ending : {M : Type 0} → (M → Result M ReplayFault) → Place M → Result M ReplayFault
 ending close (reading m number []) = close m
 ending close (reading m number (b ∷ bs)) = Err (Spelling number)

@@ -50,8 +50,8 @@ impl Replay {
         }
     }
 
-    /// Reads the next piece of the trace. What follows the line `end`, or a fault, is not looked
-    /// at.
+    /// Reads the next piece of the trace. Whatever follows the line `end`, or a fault, is
+    /// ignored.
     pub fn feed(&mut self, piece: &[u8])
         ensures setup { self.new.setup ≡ self.old.setup }
         ensures stands { (text : List ℕ) → StandsFor self.old text
@@ -125,7 +125,7 @@ impl Replay {
         }
     }
 
-    /// What the text comes to that ends here.
+    /// The result of a text that ends here.
     fn answer(self) -> Result<Machine, ReplayFault>
         ensures ending { result ≡ ending close self.place }
         ensures complete { IfOk result (λ m. Complete m.setup (configuration m)) }

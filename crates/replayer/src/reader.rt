@@ -36,7 +36,7 @@ impl Model for Reader {
     ghost invariant = { λ r. LacksFeed r.unfinished.items };
 }
 
-/// The first line and what stands after its line feed, where there is a line feed.
+/// The first line and the rest after its line feed, if there is a line feed.
 pub fn first_line(text: &[u8]) -> Option<(&[u8], &[u8])>
     ensures { MatchOption result (LacksFeed text.now)
         (λ parts. IsCut text.now parts.0.now parts.1.now) }
@@ -47,7 +47,7 @@ pub fn first_line(text: &[u8]) -> Option<(&[u8], &[u8])>
     Some(cut(text, end))
 }
 
-/// What stands before a place, and what stands after it.
+/// The bytes before a place, and those after it.
 fn cut(text: &[u8], at: usize) -> (&[u8], &[u8])
     requires { at < length text.now }
     ensures front { result.0.now ≡ take at text.now }
@@ -96,7 +96,7 @@ impl Reader {
         self.unfinished.is_empty()
     }
 
-    /// The line ends with these bytes, after which its line feed stands.
+    /// The line ends with these bytes, and its line feed follows.
     pub fn close(&mut self, bytes: &[u8]) -> Found
         ensures found { result ≡ found_in (self.old ++ bytes.now) }
         ensures fresh { self.new ≡ [] }
@@ -108,7 +108,7 @@ impl Reader {
         self.close_kept(bytes)
     }
 
-    /// The same where the line has bytes that are kept.
+    /// The same for a line of which some bytes are kept.
     fn close_kept(&mut self, bytes: &[u8]) -> Found
         ensures found { result ≡ found_in (self.old ++ bytes.now) }
         ensures fresh { self.new ≡ [] }
@@ -122,7 +122,7 @@ impl Reader {
         line
     }
 
-    /// The line goes on with these bytes. It answers false where there are too many, and then
+    /// The line goes on with these bytes. It answers false if there are too many, and then
     /// nothing has changed.
     pub fn keep(&mut self, bytes: &[u8]) -> bool
         requires { LacksFeed bytes.now }

@@ -1,4 +1,4 @@
-//! A trace that is there as a whole.
+//! A trace that is given as a whole.
 
 ghost use Rattle.std.specs.Prelude.{◌≡◌, []};
 ghost use Rattle.replayer.specs.Lines.{trace_of};

@@ -15,7 +15,7 @@ module _ {A : Type 0} where
   alone P x p zero y at = subst P (some-injective x y at) p
   alone P x p (suc k) y at = absurd (some-ne-none y (sym at))
 
-  -- The same of a member at its place.
+  -- The same for a member at its place.
   pub alone_at : (P : ℕ → A → Type 0) (x : A) → P 0 x → (k : ℕ) (y : A) → get_elem? (x ∷ []) k ≡ some y → P k y
   alone_at P x p zero y at = subst (P 0) (some-injective x y at) p
   alone_at P x p (suc k) y at = absurd (some-ne-none y (sym at))

@@ -10,13 +10,13 @@ abbrev pub Stand : Type 0 → Type 0 → Type 0 → Type 0
 Stand M B E = Me (Option M) (View B E)
 
 module _ {M B E : Type 0} where
-  -- The number that stood in the word is the ticket.
+  -- The number that was in the word is the ticket.
   abbrev pub drawn : Step (Option M) → Stand M B E → ℕ → Stand M B E → Type 0
   drawn st m n m' = m' ≡ (with_ticket n m.0, m.1)
 
   -- Where it is the ticket's turn, the seat has the value, whose list goes on from what it had seen
   -- and has its own
-  -- entries; where it is not, nothing is told.
+  -- entries; where it is not, nothing is known.
   abbrev pub looked :
       (M → B) → (M → List (ℕ × E)) → Step (Option M) → Stand M B E → ℕ → Stand M B E → Type 0
   looked base entries st m n m' =

@@ -1,7 +1,7 @@
 -- The rule: what holds of the table and all views between any two steps.
 -- Word 0 is the next ticket to be drawn, word 1 the ticket whose turn it is, and word 2 the length
 -- of the history. Slot
--- 0 has the value, but while it is out with the view whose turn it is.
+-- 0 has the value, except while it is out with the view whose turn it is.
 use Rattle.std.specs.Prelude.{◌≡◌, ◌⊎◌, ℕ, ◌+◌, ◌^◌, ◌<◌, ◌≤◌, true, List, [], ◌∷◌, length, Option, Some}
 use mathlib.Core.Option.{none, some}
 use mathlib.Core.Option as maybe

@@ -12,8 +12,8 @@
 //!
 //! # What a seat knows
 //!
-//! Of each seat contracts see its `number`, the list at its last turn (`seen`), the entries that it
-//! made (`mine`) and how many turns it has made (`turns`). A turn tells that the list has gone on
+//! Contracts see each seat's `number`, the list at its last turn (`seen`), the entries that it
+//! made (`mine`) and how many turns it has made (`turns`). A turn shows that the list has gone on
 //! from what the seat had seen, by entries of whichever seats, and then by the seat's own new entry
 //! or by none. At the end the list goes on from what each seat has seen, its entries of the number
 //! n are exactly those that seat n made, in their order, and every entry past the start is of a

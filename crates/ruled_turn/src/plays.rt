@@ -26,7 +26,7 @@ impl<M, B, E> Play<Option<M>, View<B, E>> for Draw {
     ghost then = { drawn };
 }
 
-/// The ticket whose turn it is, is looked at, and the slot is taken where it is one's own.
+/// The ticket being served is read, and the slot is taken if that ticket is one's own.
 pub(crate) struct Look<M> {
     value: PhantomData<M>,
 }

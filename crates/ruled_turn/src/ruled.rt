@@ -25,7 +25,7 @@ const COUNT: usize = 2;
 // The slot of the table.
 const VALUE: usize = 0;
 
-/// A seat makes at most so many turns, so that no word of the table wraps.
+/// A seat makes at most this many turns, so that no word of the table wraps.
 pub const MOST_TURNS: u64 = 1 << 40;
 
 type Place<M> = Seat<Option<M>, View<<M as Turned>::Base, <M as Turned>::Entry>>;

@@ -1,4 +1,4 @@
-//! Turns of two seats, one after another and from two threads, and want of memory.
+//! Turns of two seats, one after another and from two threads, and a lack of memory.
 
 ghost use Rattle.std.specs.Prelude.{◌≡◌, ℕ, ◌<◌, ◌≤◌, ◌^◌, ⊤, [], ◌∷◌, ◌++◌, map, length, All, IfOk, IfErr, MatchBool};
 ghost use Rattle.ruled_turn.specs.Seats.{seats_of, IsSeatOf};
@@ -29,7 +29,8 @@ impl Turned for Diary {
 
     ghost admits = { λ _ _. ⊤ };
 
-    ghost replies = { λ _ before who answer after. MatchBool answer (after ≡ before ++ (who, tt) ∷ []) (after ≡ before) };
+    ghost replies = { λ _ before who answer after.
+        MatchBool answer (after ≡ before ++ (who, tt) ∷ []) (after ≡ before) };
 
     fn step(&mut self, who: u32) -> bool {
         if self.numbers.len() == self.numbers.capacity() {

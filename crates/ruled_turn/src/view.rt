@@ -1,5 +1,5 @@
-//! What the holder of a seat knows, and what the rule is told once. No value of these types but
-//! `Opening` is made when the program runs.
+//! What the holder of a seat knows, and what is fixed when the rule begins. Of these types, only
+//! `Opening` has a value when the program runs.
 
 use std::collections::LinkedList;
 use std::snapshot::Snapshot;
@@ -28,7 +28,7 @@ pub(crate) struct View<B, E> {
     pub entered: bool,
 }
 
-/// What the rule is told once: the value as it was given, and the number of seats.
+/// What is fixed when the rule begins: the value as it was given, and the number of seats.
 pub(crate) struct Opening<M> {
     pub value: Snapshot<M>,
     pub seats: u32,

@@ -21,7 +21,7 @@ use Rattle.run_text.specs.Lengths.{RunTextsFit}
 use Rattle.run_text.proofs.LineLengths.{EntryFits, entry_short, memory_short, copy_short}
 use Rattle.run_text.proofs.ShortWords.{all-filter, all-more, HasWords, row_few, memory_few, all_words, opening_words, all_entries}
 
--- Texts of which none has more than so many bytes.
+-- Texts none of which has more than this many bytes.
 flat_short :
     {X : Type 0} (f : X → List ℕ) (most : ℕ) (xs : List X) → AllByRecursion (λ x. length (f x) ≤ most) xs
     → length (flat_map f xs) ≤ most * length xs
@@ -63,7 +63,7 @@ none-before k b (x ∷ xs) less =
     let rest = none-before (suc k) b xs (omega (arith, less)) in
     rw other (omega (arith, rest))
 
--- Each place stands once at most among the places.
+-- Each place occurs at most once among the places.
 once : {X : Type 0} (k b : ℕ) (xs : List X) → count_where (λ x. b == x) (places_from k xs) ≤ 1
 once k b [] = omega arith
 once k b (x ∷ xs) = go (b == k) refl (once (suc k) b xs)

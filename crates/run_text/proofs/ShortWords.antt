@@ -284,7 +284,7 @@ after_words c (Grant by winner lines rounds) r h = record { memory = h.memory; r
 after_words c (Connect t) r h = record { memory = h.memory; rows = h.rows }
 after_words c (DataPhase e) r h = data_words c e r.5 h
 
--- The words after events whose words are of 32 bits are such.
+-- After events whose words are of 32 bits, all words are of 32 bits.
 pub all_words :
     (c : Configuration) (events : List Event) → AllByRecursion InRange events → HasWords c
     → HasWords (after_all c events)
@@ -358,7 +358,7 @@ event_more most count history (Grant by winner lines rounds) r low h =
     record { each = h.each; few = omega (arith, h.few) }
 event_more most count history (Connect t) r low h = record { each = h.each; few = omega (arith, h.few) }
 
--- Each event adds one entry at most, whose place is no more than the events.
+-- Each event adds one entry at most, whose place is at most the number of events.
 pub all_entries :
     (most count : ℕ) (history : List Entry) (events : List Event) → AllByRecursion InRange events
     → count + length events ≤ most → EntriesFit most count history → EntriesFit most most (entries_after history events)

@@ -8,7 +8,7 @@ use Rattle.class_words.specs.Words.{state_word}
 use Rattle.bus_model.specs.Entries.{Entry}
 use Rattle.bus_model.specs.Configuration.{Row}
 
--- The numbers from 0 up to this one, which is left out.
+-- The numbers from 0 up to this one, exclusive.
 abbrev pub numbers_below : ℕ → List ℕ
 numbers_below zero = []
 numbers_below (suc n) = numbers_below n ++ n ∷ []

@@ -25,7 +25,7 @@ AreWords (Write a v) reply = IsValue v
 AreWords (Pass a) reply = Unit {0}
 AreWords (Flush a) reply = Unit {0}
 
--- The same of an access that may have been completed.
+-- The same for an access that may have been completed.
 abbrev pub AreWordsIf : Option Done → Type 0
 AreWordsIf None = Unit {0}
 AreWordsIf (Some done) = AreWords done.access done.reply

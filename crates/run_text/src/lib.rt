@@ -7,7 +7,7 @@
 //! copy BOARD LINE STATE W W W W
 //! ```
 //!
-//! The replies stand board by board in the order of their scripts, PLACE being the place of the
+//! The replies come board by board in the order of their scripts, PLACE being the place of the
 //! access in the script from 1; then each line of memory; then the copies board by board in order
 //! of line. Lines wait in a page on the stack, which is written when it has no room for one more,
 //! and at the end. No call here takes memory.
@@ -16,7 +16,7 @@
 mod laws;
 mod lines;
 mod page;
-mod printing;
+mod printer;
 mod run;
 mod spelling;
 #[cfg(test)]

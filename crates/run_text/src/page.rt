@@ -22,7 +22,7 @@ impl Model for Page {
 }
 
 impl Page {
-    /// No byte waits.
+    /// An empty page.
     pub(crate) fn new() -> Page
         ensures { result ≡ [] }
     {
@@ -50,7 +50,7 @@ impl Page {
         result
     }
 
-    /// Appends a line, and first writes the bytes that wait where there is no room for it.
+    /// Appends a line, and first writes the waiting bytes if there is no room for it.
     pub(crate) fn add<K: Sink>(&mut self, line: &[u8], sink: &mut K) -> Result<(), PutFailed>
         ensures paged { Paged (K.faults sink.old) (K.faults sink.new) (K.taken sink.old)
             (K.taken sink.new) self.old self.new line.now result }

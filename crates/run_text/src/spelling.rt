@@ -1,8 +1,8 @@
 //! The events of a run are spelled: each has a line.
 //!
 //! A line has a board from 1 to 16, a line of memory from 0 to 4,095, a word of 32 bits, and so on.
-//! That the numbers of each event of a run are such is a law over the definitions of the machine,
-//! and so no printer looks at them again.
+//! That the numbers of each event of a run are in these ranges is a law over the definitions of the
+//! machine, so no printer checks them again.
 
 ghost use Rattle.run_text.specs.RunLines.{IsWordIf, AreWords, AreWordsIf, IsTyped, StepsAreSpelled, RunsAreSpelled};
 

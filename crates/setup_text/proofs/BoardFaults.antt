@@ -214,7 +214,7 @@ begins_behind s p n t shape choose ws more h low a b is fs fc e =
     begins_board s (made p n t shape choose) (b6 p n t ws) more h (fits_made p n t shape choose low a b is fs fc) refl
     (ap (λ (x : Words). b6 p n t x) e)
 
--- ---- what can stand after them
+-- ---- what can follow them
 
 pub expects_place :
     (s : SetupText) (t : Words) (others : List Words) → Follows s (b1 ++ t) others → NumberTail 0 4294967295 t

@@ -529,7 +529,7 @@ module _ (s : SetupText) (h : StandsSoFar s) (rest : List Place) (line : ℕ) wh
             nothing (inl (u, e)) = let same : w ≡ codes "plain" = cc in differ same ea
             nothing (inr (u, e)) = let same : w ≡ codes "cached" = cc in differ same eb
 
-    -- the cache, and what stands after it
+    -- the cache, and what follows it
     behind_name :
         (table : ℕ) (ws : Words) (k : SetupKind) → shaped_by n table (shape_at found.1 ws) ≡ Err k
         → Stops (b6 p n name ws) k

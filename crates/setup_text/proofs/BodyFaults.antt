@@ -1,4 +1,4 @@
--- Where a line after the lines of a setup is refused, and that one that is read fails no side condition.
+-- Where a line after the lines of a setup is refused; one that is read fails no side condition.
 use Rattle.std.proofs.Common.{◌≡◌, ℕ, ◌<◌, ◌≤◌, ◌^◌, ◌⊎◌, inl, inr, Bool, true, false, cond, ltb, List, [], ◌∷◌, ◌++◌, length, drop, Option, Some, None, Result, Ok, Err, refl, sym, ap, subst, ◌∙◌, arith}
 use Rattle.std.specs.Prelude.{codes, decimal}
 use Rattle.std.specs.Str.{bytes_eq}
@@ -101,7 +101,7 @@ begins_none : (s : SetupText) → StandsSoFar s → Begins s []
 begins_none s h = begins_by (open_rows s) end_row [] end_row (next_end s h.fits) refl
 
 module _ (rest : List Place) (line : ℕ) where
-  -- a first word that is none here
+  -- a first word that cannot begin the next line
   unknown :
       (s : SetupText) (w : List ℕ) (l : Words) (k : SetupKind) → StandsSoFar s
       → ((more : Words) (others : List Words) → Follows s (w ∷ more) others → ⊥) → UnknownWord ≡ k

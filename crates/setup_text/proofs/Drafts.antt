@@ -1,4 +1,4 @@
--- What changes of a setup that was read so far keep.
+-- What is kept by changes of a setup that was read so far.
 use Rattle.std.proofs.Common.{◌≡◌, ◌≢◌, ℕ, ◌+◌, ◌-◌, ◌<◌, ◌≤◌, Bool, true, false, ◌↔◌, not, ◌||◌, List, [], ◌∷◌, ◌++◌, map, length, get_or, set, None, Result, Ok, Err, OnOk, OnErr, refl, sym, ap, subst, ◌∙◌, arith, IsTrue, All, sum_by}
 use Rattle.std.proofs.lemmas.List.{length-set, length-append, length-map, map-set, get_or-map, get_or_append_left, map-append}
 use Rattle.std.proofs.lemmas.List.Elements.{All-set, All-push, All-weaker, All-get_or}

@@ -68,7 +68,7 @@ peel_tables (t ∷ ts) (u ∷ us) X Y fits none e =
     ≡ map cell_words u.cells ++ (end_row ∷ (tables_rows us ++ Y)) = cc in
     peel_tables ts us X Y fits.1 none (peel_cells t.cells u.cells (tables_rows ts ++ X) (tables_rows us ++ Y) rest)
 
--- what can stand in a table after some of its cell lines
+-- what can follow some of the cell lines of a table
 pub data InTable (l : Words) : Type 0 where
   cell : (c : CellLine) → HasAlternative c → l ≡ cell_words c → InTable l
   closes : l ≡ end_row → InTable l
@@ -119,7 +119,7 @@ abbrev boards_rows : List BoardText → List Words
 boards_rows [] = []
 boards_rows (b ∷ bs) = board_rows b ++ boards_rows bs
 
--- the accesses of a board, and what stands after them
+-- the accesses of a board, and what follows them
 peel_accesses :
     (ps cs : List Access) (bs ds : List BoardText) (l : Words) (others : List Words) → AllByRecursion AccessFits cs
     → map access_row ps ++ (boards_rows bs ++ (l ∷ others)) ≡ map access_row cs ++ (boards_rows ds ++ (end_row ∷ []))
@@ -185,7 +185,7 @@ no_word_tables :
 no_word_tables [] ds w rest e = no_word_boards ds w rest e
 no_word_tables (u ∷ us) ds w rest e = cc
 
--- the lines of a setup with what stands after them
+-- the lines of a setup with what follows them
 rows_open :
     (s : SetupText) (X : List Words)
     → open_rows s ++ X

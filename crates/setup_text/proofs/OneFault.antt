@@ -8,7 +8,7 @@ use Rattle.setup_text.specs.Grammars.{UnfitText, unfit_word, unfit_end}
 
 -- ---- one first fault
 
--- Two cuts of one list are the same, or one stands before the other.
+-- Two cuts of one list are the same, or one comes before the other.
 cuts :
     {X : Type 0} (b c : List X) (x y : X) (u v : List X) → b ++ x ∷ u ≡ c ++ y ∷ v
     → ((b ≡ c) × (x ≡ y)) ⊎ (((more : List X) × (c ≡ b ++ x ∷ more)) ⊎ ((more : List X) × (b ≡ c ++ y ∷ more)))
@@ -102,7 +102,7 @@ module _ {S : Type 0} (g : Grammar S SetupKind) where
   at_end (q ∷ []) p u end e = absurd cc
   at_end (q ∷ r ∷ b) p u end e = absurd cc
 
-  -- A first fault that is not at the end of the text stays the first one with one more line.
+  -- A first fault that is not at the end of the text is still the first one after one more line.
   pub fault_stays :
       (ls more : List Line) (end l : ℕ) (k : SetupKind) → (f : FirstFault g (lines_places ls end) l k)
       → (f.place.item ≡ text_end → ⊥) → FirstFault g (lines_places (ls ++ more) end) l k

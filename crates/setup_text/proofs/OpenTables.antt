@@ -69,7 +69,7 @@ without_head cells words here k (inl ((s, one, inl (more, h)), e)) = absurd cc
 without_head cells words here k (inl ((s, one, inr has), e)) = inl ((s, one, has), e)
 without_head cells words here k (inr h) = inr h
 
--- ---- what stands after the words of a cell line
+-- ---- what follows the words of a cell line
 
 no_slot : (s : State) (ws : Words) → unfit_word (state_word s ∷ ws) ≡ UnknownWord
 no_slot M ws = refl

@@ -1,4 +1,4 @@
--- What stands of a setup so far: its parts, line by line.
+-- A setup that stands so far: its parts, line by line.
 use Rattle.std.proofs.Common.{◌≡◌, ℕ, ◌+◌, ◌*◌, ◌/◌, ◌<◌, ◌≤◌, ◌^◌, false, List, [], ◌∷◌, ◌++◌, map, length, set, replicate, None, refl, sym, ap, subst, ◌∙◌, append_assoc, arith, All}
 use Rattle.std.specs.List.{AllByRecursion, flat_map}
 use Rattle.std.proofs.lemmas.List.{length-set, length-append, length-map, map-append, append-nil, length-replicate}
@@ -172,7 +172,7 @@ before_word n ws w s =
 
 -- ---- a table
 
--- what stands of an open table, among whole ones
+-- an open table that stands, among whole ones
 pub record TableStands (tables : List Table) (t : TableText) : Type 0 where
   pub fits : TableFits t
   pub cells : CellsStand t

@@ -69,7 +69,7 @@ pub record AreTables (tables : List Table) : Type 0 where
   pub few : length tables ≤ 16
   pub names : AllPairs (λ (a b : Table). a.name ≢ b.name) tables
 
--- The limits and side conditions of a setup, but that it may have no boards yet.
+-- The limits and side conditions of a setup, except that it may have no boards yet.
 pub record IsDraft (setup : Setup) : Type 0 where
   pub memory : length setup.memory ≡ 4 * line_count setup
   pub words : All (λ word. word < 2 ^ 32) setup.memory

@@ -21,9 +21,9 @@ use Rattle.setup_text.specs.Spelling.{TableText, SetupText, TableFits, open_tabl
 use Rattle.setup_text.specs.Standing.{StandsSoFar, TablesStand}
 use Rattle.setup_text.specs.Values.{tables_of, names_of, setup_of}
 
--- ---- what stands after the words of a line
+-- ---- what follows the words of a line
 
--- What a word of a line is: its first word, or what stands there by the form of the line.
+-- What a word of a line is: its first word, or what the form of the line wants there.
 pub data Slot : Type 0 where
   first : Slot
   lines : Slot
@@ -73,7 +73,7 @@ cached_front = board_front ++ the (codes "cached") ∷ []
 abbrev pub seed_front : Front
 seed_front = the (codes "choose") ∷ the (codes "seed") ∷ []
 
--- The fronts of lines, and what stands after each.
+-- The fronts of lines, and what follows each.
 abbrev pub fronts : List (Front × Slot)
 fronts =
     ([], first)
@@ -100,7 +100,7 @@ abbrev pub slot_among : List (Front × Slot) → Words → Slot
 slot_among [] ws = other
 slot_among (f ∷ fs) ws = if has_front f.0 ws then f.1 else slot_among fs ws
 
--- What stands after these words of a line.
+-- What follows these words of a line.
 abbrev pub slot_of : Words → Slot
 slot_of ws = slot_among fronts ws
 
@@ -244,11 +244,11 @@ unfit_word words = if wants_number (slot_of words) then Number else UnknownWord
 abbrev pub cell_front : Front
 cell_front = any ∷ any ∷ the (codes "=") ∷ []
 
--- The same at the end of a line, but that a cell line needs an alternative.
+-- The same at the end of a line, except that a cell line needs an alternative.
 abbrev pub unfit_end : Words → SetupKind
 unfit_end words = if has_front cell_front words then NoCell else unfit_word words
 
--- The kind is that which the words of the line before this place give.
+-- The kind is the one that the words of the line before this place give.
 pub record UnfitBehind (kind_at : Words → SetupKind) (before : List Item) (kind : SetupKind) : Type
     0 where
   pub earlier : List Words

@@ -1,4 +1,4 @@
--- What texts of tables, setups and schedules are written as.
+-- How texts of tables, setups and schedules are written.
 use Rattle.std.specs.Prelude.{◌≡◌, ℕ, ◌<◌, ◌≤◌, ◌^◌, true, List, [], ◌∷◌, ◌++◌, length, map, codes, decimal}
 use Rattle.std.specs.List.{flat_map, AllByRecursion}
 use Rattle.fb_text.specs.Places.{Words, Item, text_end, lines_items}
@@ -13,7 +13,7 @@ use Rattle.table_text.specs.Spelling.{CellLine, cell_words, HasAlternative}
 
 -- ---- what is written
 
--- A table: its name, and its cell lines in the order in which they stand.
+-- A table: its name, and its cell lines in their order.
 pub record TableText : Type 0 where
   pub name : List ℕ
   pub cells : List CellLine
@@ -143,11 +143,11 @@ pub record SetupFits (s : SetupText) : Type 0 where
   pub tables : AllByRecursion TableFits s.tables
   pub boards : AllByRecursion BoardFits s.boards
 
--- A text of tables has one table at least.
+-- A text of tables has at least one table.
 abbrev pub BookFits : List TableText → Type 0
 BookFits tables = (0 < length tables) × AllByRecursion TableFits tables
 
--- Each line of a schedule has a place at least, and each place is that of one of so many boards.
+-- Each line of a schedule has at least one place, and each place is that of one of so many boards.
 abbrev pub TurnsFit : ℕ → List ℕ → Type 0
 TurnsFit boards places = (0 < length places) × AllByRecursion (λ p. (1 ≤ p) × (p ≤ boards)) places
 

@@ -8,7 +8,7 @@ use Rattle.setup.specs.Setup.{Setup}
 use Rattle.table_text.specs.Spelling.{table_of}
 use Rattle.setup_text.specs.Spelling.{TableText, BoardText, SetupText}
 
--- Words of memory after `word` lines: where an address is named twice the last line holds.
+-- Words of memory after `word` lines: where an address is named twice the last line counts.
 abbrev pub words_set : List ℕ → List (ℕ × ℕ) → List ℕ
 words_set memory [] = memory
 words_set memory (w ∷ ws) = words_set (slice_set memory w.0 w.1) ws

@@ -74,7 +74,7 @@ pub record IsWholeSetup (s : Setup) : Type 0 where
   pub chooses : AllByRecursion (λ (b : BoardSpec). ChooseFits b.choose) s.boards
   pub scripts : AllByRecursion (AllByRecursion AccessFits) s.scripts
 
--- The lines with words of bytes that follow a written setup, numbered as they stand after it.
+-- The lines with words of bytes that follow a written setup, numbered as they come after it.
 abbrev pub lines_behind : Setup → List ℕ → List Line
 lines_behind s rest = numbered (length (setup_rows (text_of s)) + 1) (lines rest)
 
@@ -83,7 +83,7 @@ abbrev pub places_behind : Setup → List ℕ → List Item
 places_behind s rest =
     items (lines_places (lines_behind s rest) (unread (written_setup s ++ rest)).end)
 
--- What reading answers where these lines follow a written setup: the setup where there are none,
+-- What reading gives where these lines follow a written setup: the setup where there are none,
 -- and else a fault at the first word of the first line, unless memory runs out.
 abbrev pub IsReadBefore : List Line → Result Setup SetupFault → Setup → Type 0
 IsReadBefore ls (Err faults.NoMemory) s = Unit {0}

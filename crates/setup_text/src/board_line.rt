@@ -135,7 +135,7 @@ fn front(scan: &mut Scan, boards: &[BoardSpec]) -> Result<u16, SetupFault>
     board_number(scan, boards)
 }
 
-/// Reads the name of a table. Answers its place, and whether the table reaches no state but I.
+/// Reads the name of a table. Returns its place, and whether the table reaches no state but I.
 #[tactic(auto, unfolding(crate::specs::Reading::table_name_at))]
 fn table_name(scan: &mut Scan, tables: &Tables) -> Result<(u32, bool), SetupFault>
     ensures value { Gives (λ t. (t.0, t.1, scan.new.words)) result scan.old.line

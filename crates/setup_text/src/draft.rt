@@ -157,7 +157,7 @@ impl Draft {
         Ok(())
     }
 
-    /// The setup, once all of it was read.
+    /// The setup, once all of it has been read.
     pub fn finish(self) -> Setup
         requires { 1 ≤ length self.boards }
         ensures { result ≡ self }

@@ -20,7 +20,7 @@ pub enum LimitOf {
 /// The kind of a fault.
 #[derive(Clone, Copy, Debug, PartialEq, Eq)]
 pub enum SetupKind {
-    /// A word that cannot stand here, or no word where one is needed.
+    /// A word that is not allowed here, or no word where one is needed.
     UnknownWord,
     /// No number where one is needed, a number out of range, or a place that is not the next one.
     Number,

@@ -1,6 +1,7 @@
 //! The texts of setups, of tables and of schedules.
 #![tactic(auto)]
 
+mod alone;
 mod board_line;
 mod book;
 mod draft;
@@ -14,6 +15,7 @@ mod tables;
 mod words;
 mod writing;
 
+pub use alone::read_table_alone;
 pub use book::read_book;
 pub use fault::{LimitOf, SetupFault, SetupKind};
 pub use laws::{book_faults_are_first, schedule_faults_are_first, setup_faults_are_first};

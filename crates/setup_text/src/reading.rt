@@ -119,7 +119,7 @@ fn part(alloc: Global, scan: &mut Scan, draft: &mut Draft, word: &[u8]) -> Resul
     }
 }
 
-/// Reads one line or one table. Answers whether it was the `end` line.
+/// Reads one line or one table. Returns whether it was the `end` line.
 #[tactic(auto, unfolding(crate::specs::Reading::body_line))]
 fn line(alloc: Global, scan: &mut Scan, draft: &mut Draft) -> Result<bool, SetupFault>
     ensures exact { GoesOn lines_at (mode_after draft.new) result scan.new

@@ -25,7 +25,7 @@ fn bad(line: u32, kind: SetupKind) -> Result<usize, SetupFault> {
 }
 
 #[test]
-fn setups_with_a_fault(rt: HostRuntime) -> Result<(), Fail> {
+fn memory_with_a_fault(rt: HostRuntime) -> Result<(), Fail> {
     let rows = [
         ("", 1, SetupKind::NoEnd),
         ("memory 4097\n", 1, limit(LimitOf::Lines, 4097)),
@@ -38,6 +38,17 @@ fn setups_with_a_fault(rt: HostRuntime) -> Result<(), Fail> {
         ("mem 1\n", 1, SetupKind::UnknownWord),
         ("memory 1\nword 4 1\n", 2, SetupKind::Address),
         ("memory 1\nword 3 4294967296\n", 2, SetupKind::Number),
+    ];
+    for (text, line, kind) in rows {
+        let read = read_as_setup(rt.alloc(), text)?;
+        assert_eq!(rt; read, Err(SetupFault::Bad { line, kind }), "{text}");
+    }
+    Ok(())
+}
+
+#[test]
+fn tables_with_a_fault(rt: HostRuntime) -> Result<(), Fail> {
+    let rows = [
         (
             "memory 1\ntable un\nI read = I urd\nI read = I urd\n",
             4,
@@ -67,11 +78,17 @@ fn setups_with_a_fault(rt: HostRuntime) -> Result<(), Fail> {
         ),
         ("memory 1\ntable x\nend\n", 4, SetupKind::NoEnd),
         ("memory 1\ntable x\n", 3, SetupKind::NoEnd),
-        (
-            "memory 1\ntable x\nI read = S rd\nend\nboard 1 number 5 table x plain choose first\n",
-            5,
-            SetupKind::NoFrames,
-        ),
+    ];
+    for (text, line, kind) in rows {
+        let read = read_as_setup(rt.alloc(), text)?;
+        assert_eq!(rt; read, Err(SetupFault::Bad { line, kind }), "{text}");
+    }
+    Ok(())
+}
+
+#[test]
+fn numbers_of_boards_with_a_fault(rt: HostRuntime) -> Result<(), Fail> {
+    let rows = [
         (
             "memory 1\ntable x\nend\nboard 2 number 5 table x plain choose first\n",
             4,
@@ -88,6 +105,33 @@ fn setups_with_a_fault(rt: HostRuntime) -> Result<(), Fail> {
             SetupKind::Number,
         ),
         (
+            "memory 1\ntable x\nend\nboard 1 number 5 table x cached 257 1 choose first\n",
+            4,
+            SetupKind::Number,
+        ),
+        (
+            "memory 1\ntable x\nend\n\
+             board 1 number 5 table x plain choose seed 18446744073709551616\n",
+            4,
+            SetupKind::Number,
+        ),
+    ];
+    for (text, line, kind) in rows {
+        let read = read_as_setup(rt.alloc(), text)?;
+        assert_eq!(rt; read, Err(SetupFault::Bad { line, kind }), "{text}");
+    }
+    Ok(())
+}
+
+#[test]
+fn boards_with_a_fault(rt: HostRuntime) -> Result<(), Fail> {
+    let rows = [
+        (
+            "memory 1\ntable x\nI read = S rd\nend\nboard 1 number 5 table x plain choose first\n",
+            5,
+            SetupKind::NoFrames,
+        ),
+        (
             "memory 1\ntable x\nend\nboard 1 number 5 table y plain choose first\n",
             4,
             SetupKind::NoTable,
@@ -98,22 +142,13 @@ fn setups_with_a_fault(rt: HostRuntime) -> Result<(), Fail> {
             limit(LimitOf::Frames, 272),
         ),
         (
-            "memory 1\ntable x\nend\nboard 1 number 5 table x cached 257 1 choose first\n",
-            4,
-            SetupKind::Number,
-        ),
-        (
-            "memory 1\ntable x\nend\nboard 1 number 5 table x plain choose seed 18446744073709551616\n",
-            4,
-            SetupKind::Number,
-        ),
-        (
             "memory 1\ntable x\nend\nboard 1 number 5 table x plain choose last\n",
             4,
             SetupKind::UnknownWord,
         ),
         (
-            "memory 1\ntable x\nend\nboard 1 number 5 table x plain choose first\nboard 2 number 5 table x plain choose first\n",
+            "memory 1\ntable x\nend\nboard 1 number 5 table x plain choose first\n\
+             board 2 number 5 table x plain choose first\n",
             5,
             SetupKind::TwiceNumber,
         ),
@@ -130,6 +165,40 @@ fn setups_with_a_fault(rt: HostRuntime) -> Result<(), Fail> {
     ];
     for (text, line, kind) in rows {
         let read = read_as_setup(rt.alloc(), text)?;
+        assert_eq!(rt; read, Err(SetupFault::Bad { line, kind }), "{text}");
+    }
+    Ok(())
+}
+
+/// How long the name of the one table of a text is, or the fault of the text.
+fn alone_in(alloc: Global, text: &str) -> Result<Result<usize, SetupFault>, Fail> {
+    if text.len() >= 100_000 {
+        return Err(Fail::from("long"));
+    }
+    match read_table_alone(alloc, text.as_bytes()) {
+        Ok(table) => Ok(Ok(table.name().bytes().len())),
+        Err(fault) => Ok(Err(fault)),
+    }
+}
+
+#[test]
+fn texts_of_one_table(rt: HostRuntime) -> Result<(), Fail> {
+    let alone = alone_in(rt.alloc(), "# one\ntable xyz\nend\n\n# no more\n")?;
+    assert_eq!(rt; alone, Ok(3));
+    let rows = [
+        ("", 1, SetupKind::NoEnd),
+        ("memory 1\n", 1, SetupKind::UnknownWord),
+        ("\ntable x\n", 3, SetupKind::NoEnd),
+        ("table x y\nend\n", 1, SetupKind::UnknownWord),
+        ("table x\nend\n\ntable y\nend\n", 4, SetupKind::UnknownWord),
+        (
+            "table x\nI read = I\nI read = I\nend\nmore\n",
+            3,
+            SetupKind::TwiceCell,
+        ),
+    ];
+    for (text, line, kind) in rows {
+        let read = alone_in(rt.alloc(), text)?;
         assert_eq!(rt; read, Err(SetupFault::Bad { line, kind }), "{text}");
     }
     Ok(())

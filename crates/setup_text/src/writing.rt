@@ -237,8 +237,8 @@ pub fn write_setup(setup: &Setup, text: &mut Text) -> Result<(), NoMemory>
     ensures whole { OnOk result (IsWholeSetup setup.now) }
     // The spelling is a text of this setup.
     ensures spelled { OnOk result (IsSetup (written_setup setup.now) setup.now) }
-    // Whatever follows the spelling, its lines stand in the text as they were written, and after
-    // them what follows.
+    // Whatever follows the spelling, the text has its lines as they were written, and then the
+    // lines that follow.
     ensures goes_on { OnOk result ((rest : List ℕ)
         → items (text_places (written_setup setup.now ++ rest))
         ≡ lines_items (setup_rows (text_of setup.now)) ++ places_behind setup.now rest) }

@@ -25,16 +25,32 @@ fn shown(alloc: Global, text: &str) -> Result<Text, Fail> {
 fn setups_are_written(rt: HostRuntime) -> Result<(), Fail> {
     let rows = [
         (
-            "# one board\nmemory 1\nword 3 9\ntable un   # no cache\nI write = I uwr\nI read = I urd\nI pass = I\nI flush = I\nend\nboard 1 number 5 table un plain choose seed 7\n  read 3\nend\n",
-            "memory 1\nword 3 9\ntable un\nI read = I urd\nI write = I uwr\nI pass = I\nI flush = I\nend\nboard 1 number 5 table un plain choose seed 7\nread 3\nend\n",
+            "# one board\nmemory 1\nword 3 9\ntable un   # no cache\nI write = I uwr\n\
+             I read = I urd\nI pass = I\nI flush = I\nend\n\
+             board 1 number 5 table un plain choose seed 7\n  read 3\nend\n",
+            "memory 1\nword 3 9\ntable un\nI read = I urd\nI write = I uwr\nI pass = I\n\
+             I flush = I\nend\nboard 1 number 5 table un plain choose seed 7\nread 3\nend\n",
         ),
         (
-            "memory 1\ntable un\nI read = I urd\nI write = I uwr\nI pass = I\nI flush = I\nend\nboard 1 number 5 table un plain choose first\nboard 2 number 4 table un plain choose first\nend\n",
-            "memory 1\ntable un\nI read = I urd\nI write = I uwr\nI pass = I\nI flush = I\nend\nboard 1 number 5 table un plain choose first\nboard 2 number 4 table un plain choose first\nend\n",
+            "memory 1\ntable un\nI read = I urd\nI write = I uwr\nI pass = I\nI flush = I\nend\n\
+             board 1 number 5 table un plain choose first\n\
+             board 2 number 4 table un plain choose first\nend\n",
+            "memory 1\ntable un\nI read = I urd\nI write = I uwr\nI pass = I\nI flush = I\nend\n\
+             board 1 number 5 table un plain choose first\n\
+             board 2 number 4 table un plain choose first\nend\n",
         ),
         (
-            "memory 2\nword 6 0\nword 5 1\nword 0 4294967295\nword 5 7\nword 1 2\nword 1 0\ntable b\nend\ntable a\nS read = S\nend\nboard 1 number 255 table a cached 1 256 choose round\nwrite 7 4294967295\npass 4\nboard 2 number 1 table b plain choose first\nboard 3 number 17 table a cached 16 4 choose seed 18446744073709551615\nflush 0\nread 1\nend",
-            "memory 2\nword 0 4294967295\nword 5 7\ntable b\nend\ntable a\nS read = S\nend\nboard 1 number 255 table a cached 1 256 choose round\nwrite 7 4294967295\npass 4\nboard 2 number 1 table b plain choose first\nboard 3 number 17 table a cached 16 4 choose seed 18446744073709551615\nflush 0\nread 1\nend\n",
+            "memory 2\nword 6 0\nword 5 1\nword 0 4294967295\nword 5 7\nword 1 2\nword 1 0\n\
+             table b\nend\ntable a\nS read = S\nend\n\
+             board 1 number 255 table a cached 1 256 choose round\nwrite 7 4294967295\npass 4\n\
+             board 2 number 1 table b plain choose first\n\
+             board 3 number 17 table a cached 16 4 choose seed 18446744073709551615\nflush 0\n\
+             read 1\nend",
+            "memory 2\nword 0 4294967295\nword 5 7\ntable b\nend\ntable a\nS read = S\nend\n\
+             board 1 number 255 table a cached 1 256 choose round\nwrite 7 4294967295\npass 4\n\
+             board 2 number 1 table b plain choose first\n\
+             board 3 number 17 table a cached 16 4 choose seed 18446744073709551615\nflush 0\n\
+             read 1\nend\n",
         ),
     ];
     for (text, wanted) in rows {

@@ -1,4 +1,4 @@
--- The class of tables goes by paths: the test of reached states and the faults come to the same.
+-- The class of tables, stated by paths: the test of reached states and the faults come to the same thing.
 use Rattle.std.proofs.Common.{◌≡◌, ◌≢◌, ℕ, ◌+◌, Bool, true, false, ◌&&◌, List, [], ◌∷◌, refl, ap}
 use Rattle.std.specs.Prelude.{flat_map, if◌then◌else◌}
 use Rattle.std.specs.List.{AllByRecursion}

@@ -1,4 +1,4 @@
--- The class of tables, said by paths and cells alone.
+-- The class of tables, stated by paths and cells alone.
 use Rattle.std.specs.Prelude.{◌≢◌, ◌↔◌, [], IsTrue, All}
 use Rattle.moesi_state.specs.declared.State.{State}
 use Rattle.moesi_state.specs.States.{holds}

@@ -1,4 +1,4 @@
-//! The class of tables goes by paths.
+//! The class of tables, stated by paths.
 
 ghost use Rattle.table_check.specs.Paths.{ReachedGoesByPaths, ClassGoesByPaths};
 

@@ -9,8 +9,8 @@ ghost use Rattle.table_check.specs.Accepted.{InClass, faults};
 ghost use Rattle.table_check.specs.KnownTables.{uncached, copy_back, copy_back_update, write_through, whole_class, with_quiet, without_owned, owned_cells};
 
 /// The tables of well-known protocols and that of the whole class are accepted. A copy-back table
-/// is not where a shared copy hides from a read, where it answers what never comes, and where it
-/// has no cells for a state that it reaches.
+/// is refused where a shared copy hides from a read, where it answers an event that never comes,
+/// and where it has no cells for a state that it reaches.
 pub fn known_tables_are_judged()
     ensures uncached { InClass uncached }
     ensures copy_back { InClass copy_back }

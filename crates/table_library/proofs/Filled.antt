@@ -32,26 +32,30 @@ pub locals_twice :
     → with_locals (with_locals table state event xs) state event ys ≡ with_locals table state event (xs ++ ys)
 unfolding with_locals
 locals_twice table state event xs ys =
-    ap (λ (cells : List (List LocalAction)). record table { locals = cells }) (set_twice table.locals (local_cell state event) xs ys)
+    ap (λ (cells : List (List LocalAction)). record table { locals = cells })
+    (set_twice table.locals (local_cell state event) xs ys)
 
 pub locals_nothing :
     (table : Table) (state : State) (event : LocalEvent) → with_locals table state event [] ≡ table
 unfolding with_locals
 locals_nothing table state event =
-    ap (λ (cells : List (List LocalAction)). record table { locals = cells }) (set_nothing table.locals (local_cell state event))
+    ap (λ (cells : List (List LocalAction)). record table { locals = cells })
+    (set_nothing table.locals (local_cell state event))
 
 pub answers_twice :
     (table : Table) (state : State) (event : BusEvent) (xs ys : List SnoopAction)
     → with_answers (with_answers table state event xs) state event ys ≡ with_answers table state event (xs ++ ys)
 unfolding with_answers
 answers_twice table state event xs ys =
-    ap (λ (cells : List (List SnoopAction)). record table { answers = cells }) (set_twice table.answers (answer_cell state event) xs ys)
+    ap (λ (cells : List (List SnoopAction)). record table { answers = cells })
+    (set_twice table.answers (answer_cell state event) xs ys)
 
 pub answers_nothing :
     (table : Table) (state : State) (event : BusEvent) → with_answers table state event [] ≡ table
 unfolding with_answers
 answers_nothing table state event =
-    ap (λ (cells : List (List SnoopAction)). record table { answers = cells }) (set_nothing table.answers (answer_cell state event))
+    ap (λ (cells : List (List SnoopAction)). record table { answers = cells })
+    (set_nothing table.answers (answer_cell state event))
 
 -- ---- the loops over alternatives
 
@@ -91,7 +95,7 @@ locals_step locals state events i d before after whole within now was =
     ∙ sym (at_drop_more (filled_locals locals state before) events i d within)
     ∙ was
 
--- The same of an answer cell.
+-- The same for an answer cell.
 pub answers_step :
     (answers : State → BusEvent → List SnoopAction) (state : State) (events : List BusEvent) (i : ℕ)
     (d : BusEvent) (before after whole : Table) → i < length events
@@ -103,7 +107,7 @@ answers_step answers state events i d before after whole within now was =
     ∙ sym (at_drop_more (filled_answers answers state before) events i d within)
     ∙ was
 
--- The same of all cells of a state.
+-- The same for all cells of a state.
 pub states_step :
     (locals : State → LocalEvent → List LocalAction) (answers : State → BusEvent → List SnoopAction)
     (states : List State) (i : ℕ) (d : State) (before middle after whole : Table) → i < length states

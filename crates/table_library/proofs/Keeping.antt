@@ -46,7 +46,7 @@ left_holds table set good (suc k) s here =
     ∙ in_filter (is_served table (left_after table k)) (left_after table k) s
     ∙ both (is_in (left_after table k) s) (is_served table (left_after table k) s) (before s here) served
 
--- ---- the rounds come to a stand
+-- ---- the rounds come to an end
 
 left_settles :
     (table : Table) (k : ℕ)

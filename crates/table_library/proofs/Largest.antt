@@ -176,7 +176,7 @@ module _ (table part : Table) (is : IsPart part table) (accepted : InClass part)
   kept_answer s event action r c =
       answer_fits_more set (kept table) within s event action (answer_fits s event action r c)
 
-  -- What the part leads to, what fits the kept states leads to.
+  -- Whatever the part leads to, the part that fits the kept states leads to as well.
   fitting_leads_too : (s t : State) → Reached part s → leads_to part s t ≡ true → leads_to fitting s t ≡ true
   fitting_leads_too s t r h = go (one_of (leads_locally part s t) (leads_by_answer part s t) h)
     where

@@ -1,4 +1,4 @@
--- What is narrowed is in the class.
+-- A narrowed table is in the class.
 use Rattle.std.proofs.Common.{◌≡◌, Bool, true, false, ◌&&◌, ◌⊎◌, inl, inr, List, [], ◌∷◌, Some, None, filter, sym, ap, ◌∙◌, subst}
 use Rattle.std.specs.Prelude.{IsTrue, All, if◌then◌else◌}
 use Rattle.std.specs.List.{list_any}
@@ -181,7 +181,8 @@ module _ (table : Table) (set : List State) where
       (any_more (fits_answer set state event)
       (λ action. fits_answer set state event action && is_needed fitting (Cell.Answer state event))
       (answers_of table state event)
-      (λ action k. both (fits_answer set state event action) (is_needed fitting (Cell.Answer state event)) k is) some) in
+      (λ action k. both (fits_answer set state event action)
+      (is_needed fitting (Cell.Answer state event)) k is) some) in
       cc
 
   part_in_class : is_in set I ≡ true → Good table set → InClass part

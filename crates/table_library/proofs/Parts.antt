@@ -45,7 +45,7 @@ part_answer p q table state event =
 
 module _ (p : State → LocalEvent → LocalAction → Bool) (q : State → BusEvent → SnoopAction → Bool) (table : Table)
   where
-    -- What a part leads to locally, it does so by an alternative that passes.
+    -- A part leads locally to a state only by an alternative that passes.
     pub part_leads_locally :
         (s t : State) → leads_locally (part_by p q table) s t ≡ true
         → list_any (λ event. list_any (λ (a : LocalAction). p s event a && may_settle a.result t)

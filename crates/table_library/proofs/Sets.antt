@@ -34,11 +34,11 @@ in_filter p (x ∷ xs) s = go (p x) refl (same_state x s) refl (in_filter p xs s
         rest ∙ and_false (is_in xs s) (p s) fails
     go false e false f rest = rest
 
--- Of all states those are in a filtered list that pass.
+-- Of all states, those that pass are in a filtered list.
 pub in_filtered : (p : State → Bool) (s : State) → is_in (filter p all_states) s ≡ p s
 in_filtered p s = in_filter p all_states s ∙ ap (λ b. b && p s) (any_state s)
 
--- The states that pass a test stand in their order.
+-- The states that pass a test keep their order.
 pub in_order : (p : State → Bool) → filter p all_states ≡ filter (is_in (filter p all_states)) all_states
 in_order p = filter_agree p (is_in (filter p all_states)) (λ s. sym (in_filtered p s)) all_states
 
@@ -55,7 +55,7 @@ part_in_order q set ordered =
     part
     ∙ filter_agree (λ s. is_in set s && q s) (is_in (filter q set)) (λ s. sym (in_filter q set s)) all_states
 
--- What all of a list passes, each state in it passes.
+-- A test that all of a list passes, each state in it passes.
 pub all_in :
     (p : State → Bool) (xs : List State) (s : State) → list_all p xs ≡ true → is_in xs s ≡ true → p s ≡ true
 all_in p [] s all here = cc
@@ -69,7 +69,7 @@ all_in p (x ∷ xs) s all here =
     go true e here first rest = subst (λ (y : State). p y ≡ true) (same_state-eq x s e) first
     go false e here first rest = rest here
 
--- And the other way round.
+-- The converse.
 pub all_from :
     (p : State → Bool) (xs : List State) → ((s : State) → is_in xs s ≡ true → p s ≡ true) → list_all p xs ≡ true
 all_from p [] f = refl
@@ -83,7 +83,7 @@ all_from p (x ∷ xs) f =
 
 -- ---- the state sets
 
--- The states of which these four say that they are chosen, and I.
+-- The states that these four choose, and I.
 abbrev picked : Bool → Bool → Bool → Bool → State → Bool
 picked m o e s M = m
 picked m o e s O = o

@@ -24,5 +24,6 @@ abbrev pub part_by :
     (State → LocalEvent → LocalAction → Bool) → (State → BusEvent → SnoopAction → Bool) → Table
     → Table
 part_by keeps_local keeps_answer table =
-    table_by table.name (λ state event. filter (keeps_local state event) (locals_of table state event))
+    table_by table.name
+    (λ state event. filter (keeps_local state event) (locals_of table state event))
     (λ state event. filter (keeps_answer state event) (answers_of table state event))

@@ -52,7 +52,7 @@ is_served table set state =
 abbrev pub is_good : Table → List State → Bool
 is_good table set = list_all (is_served table set) set
 
--- The same, said cell by cell.
+-- The same, cell by cell.
 pub record Good (table : Table) (set : List State) : Type 0 where
   pub locals :
       (state : State) (event : LocalEvent) → IsTrue (is_in set state)

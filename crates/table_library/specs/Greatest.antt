@@ -40,7 +40,7 @@ KeptIsGreatest =
 abbrev pub NarrowedIsInClass : Type 0
 NarrowedIsInClass = (table : Table) → IsTrue (has_good_set table) → InClass (narrowed table)
 
--- A part of a table: each alternative of each of its cells stands in the table's cell.
+-- A part of a table: each alternative of each of its cells is in the table's cell.
 pub record IsPart (part table : Table) : Type 0 where
   pub locals :
       (state : State) (event : LocalEvent) (action : LocalAction)
@@ -62,8 +62,8 @@ pub record HasNeeds (table part : Table) : Type 0 where
       → Contains (answers_of part state event) action
       → Contains (answers_of table state event) action
 
--- Where a table has any part in the class, some state set is good for it, and what is left of it has
--- all that the part needs.
+-- Where a table has any part in the class, some state set is good for it, and what is left of it
+-- has all that the part needs.
 abbrev pub NarrowedIsLargest : Type 0
 NarrowedIsLargest =
     (table part : Table) → IsPart part table → InClass part

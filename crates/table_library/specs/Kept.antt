@@ -23,7 +23,7 @@ kept table = filter (is_kept table) all_states
 abbrev pub served_states : Table → List State → List State
 served_states table set = filter (is_served table set) set
 
--- The states that are left after so many rounds, each of which leaves out those not served.
+-- The states that are left after this many rounds, each of which leaves out those not served.
 unfoldable pub left_after : Table → ℕ → List State
 left_after table zero = all_states
 left_after table (suc rounds) = served_states table (left_after table rounds)

@@ -8,3 +8,4 @@ pub mod Filling
 pub mod Rules
 pub mod Protocols
 pub mod Traffic
+pub mod Lines

@@ -21,8 +21,8 @@ has_state Through state = not (owns state || is_alone state)
 has_state ThroughBroadcast state = not (owns state || is_alone state)
 has_state Uncached state = not (holds state)
 
--- Whether a board that does not own the line gives its copy up to this event: to a plain word, and
--- in the exclusive protocol to a read for a copy.
+-- Whether a board that does not own the line gives up its copy at this event: at a plain word, and
+-- in the exclusive protocol at a read for a copy.
 abbrev pub gives_up : Kind → BusEvent → Bool
 gives_up Invalidate event = writes_plain_word event
 gives_up Update event = writes_plain_word event
@@ -31,13 +31,13 @@ gives_up ThroughBroadcast event = writes_plain_word event
 gives_up Uncached event = writes_plain_word event
 gives_up Exclusive event = writes_plain_word event || fills_row event
 
--- The state that an owner goes to: it owns the line no more where the master takes it, and is not
--- alone with it any more where the master keeps a copy.
+-- The state that an owner goes to: it no longer owns the line where the master takes it, and is
+-- no longer alone with it where the master keeps a copy.
 abbrev pub owner_next : State → BusEvent → State
 owner_next state event =
     if takes_ownership event then S else (if keeps_copy event then O else state)
 
--- The state that a holder goes to that does not own the line.
+-- The state that a holder without ownership of the line goes to.
 abbrev pub sharer_next : Kind → State → BusEvent → State
 sharer_next kind state event =
     if gives_up kind event then I else (if keeps_copy event then S else state)
@@ -48,7 +48,7 @@ next_state kind state event =
     if invalidates event then I
     else (if owns state then owner_next state event else sharer_next kind state event)
 
--- What a holder in this state answers that goes to this one: CH where it and the master keep
+-- The answer of a holder that goes from this state to this one: CH where it and the master keep
 -- copies, DI where an owner serves, and SL where it keeps a copy and the word is broadcast.
 abbrev pub answer_to : State → State → BusEvent → SnoopAction
 answer_to state next event =

@@ -9,7 +9,7 @@ use Rattle.moesi_state.specs.States.{same_state, holds, all_states}
 abbrev pub is_in : List State → State → Bool
 is_in set state = list_any (λ other. same_state other state) set
 
--- The lists that are left of a list where any of its elements are taken out.
+-- The lists that remain of a list when any of its elements are taken out.
 abbrev pub sublists : {X : Type 0} → List X → List (List X)
 sublists [] = [] ∷ []
 sublists (x ∷ xs) = map (λ rest. x ∷ rest) (sublists xs) ++ sublists xs

@@ -47,7 +47,7 @@ fn serves_owner(event: BusEvent) -> bool
     event.reads() || event.writes_plain_word()
 }
 
-/// Whether a board that does not own the line gives its copy up to this event.
+/// Whether a board that does not own the line gives up its copy at this event.
 fn gives_up(kind: Kind, event: BusEvent) -> bool
     ensures { result ≡ gives_up_to kind event }
 {
@@ -95,7 +95,7 @@ fn next_state(kind: Kind, state: State, event: BusEvent) -> State
     }
 }
 
-/// What a holder in this state answers that goes to the next one.
+/// The answer of a holder that goes from this state to the next one.
 fn answer_to(state: State, next: State, event: BusEvent) -> SnoopAction
     ensures { result ≡ answers_to state next event }
 {

@@ -16,7 +16,7 @@ use moesi_state::{STATES, State};
 use no_memory::NoMemory;
 use std::alloc::Global;
 
-/// What knows the alternatives of each cell.
+/// A source of the alternatives of each cell.
 pub(crate) trait Cells {
     /// The alternatives of each cell of a local event.
     ghost locals: { Self → State → LocalEvent → List LocalAction };
@@ -35,8 +35,8 @@ pub(crate) trait Cells {
             ≡ with_answers table.old state event (answers self.now state event)) };
 }
 
-/// Appends an alternative to a local cell. A cell that takes no more than one cell of another table
-/// has is never full.
+/// Appends an alternative to a local cell. The cell is never full, as it takes no more
+/// alternatives than one cell of another table has.
 #[tactic(auto, unfolding(crate::specs::Filling::with_locals))]
 pub(crate) fn push_local(
     table: &mut Table,

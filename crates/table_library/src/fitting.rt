@@ -111,8 +111,8 @@ fn served_states(table: &Table, set: &StateSet) -> StateSet
     ])
 }
 
-/// The states that are left of all where those that are not served within the rest are left out, as
-/// often as there are states.
+/// The states that are left of all after as many rounds as there are states, each of which leaves
+/// out those that are not served within the rest.
 pub(crate) fn states_left(table: &Table) -> StateSet
     ensures { result ≡ left_after table.now (length all_states) }
 {

@@ -238,7 +238,7 @@ fn needed_part(alloc: Global, table: &Table) -> Result<Table, NoMemory>
     filled_table(alloc, table.name(), &Needed { table })
 }
 
-/// The part of a table that fits the states that are left, as far as it needs it, where these are a
+/// The needed part of what fits the states that are left, if these are a
 /// state set.
 fn part_within(alloc: Global, table: &Table, left: &StateSet) -> Result<Table, NoMemory>
     requires left { left.now ≡ left_after table.now (length all_states) }

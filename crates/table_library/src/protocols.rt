@@ -82,7 +82,7 @@ fn copy_back_flush(state: State) -> LocalAction
     }
 }
 
-/// What a copy-back board does that writes in this way where other boards may have copies.
+/// The action of a copy-back board that writes in this way where other boards may have copies.
 fn copy_back_action(state: State, event: LocalEvent, shared: LocalAction) -> LocalAction
     ensures { one result
         ≡ slice_index_or (copy_back_locals shared shared) (local_cell state event) [] }
@@ -95,14 +95,14 @@ fn copy_back_action(state: State, event: LocalEvent, shared: LocalAction) -> Loc
     }
 }
 
-/// What a copy-back board does that invalidates other copies before it writes.
+/// The action of a copy-back board that invalidates other copies before it writes.
 fn invalidating_action(state: State, event: LocalEvent) -> LocalAction
     ensures { one result ≡ locals_of copy_back state event }
 {
     copy_back_action(state, event, by_bus(State::M, BusEvent::Inv))
 }
 
-/// What a copy-back board does that updates other copies when it writes.
+/// The action of a copy-back board that updates other copies when it writes.
 fn updating_action(state: State, event: LocalEvent) -> LocalAction
     ensures { one result ≡ locals_of copy_back_update state event }
 {
@@ -131,7 +131,7 @@ fn invalid_write_through(event: LocalEvent, write: BusEvent) -> LocalAction
     }
 }
 
-/// What a write-through board does that writes by this event.
+/// The action of a write-through board that writes by this event.
 fn write_through_action(state: State, event: LocalEvent, write: BusEvent) -> Option<LocalAction>
     ensures { option_to_list result
         ≡ slice_index_or (write_through_locals write) (local_cell state event) [] }
@@ -143,7 +143,7 @@ fn write_through_action(state: State, event: LocalEvent, write: BusEvent) -> Opt
     }
 }
 
-/// What an uncached board does.
+/// The action of an uncached board.
 fn uncached_action(state: State, event: LocalEvent) -> Option<LocalAction>
     ensures { option_to_list result ≡ locals_of uncached state event }
 {

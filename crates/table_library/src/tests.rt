@@ -3,6 +3,7 @@
 use super::*;
 use bus_signals::{Access, Addr, BUS_EVENTS, BoardNo, BusEvent, LOCAL_EVENTS, LineNo, LocalEvent};
 use class_relation::{LocalAction, Name, Table};
+use fb_text::Text;
 use journal::{Answers, Carried, Connected, Done, Event, Places, Source, States, Takers};
 use moesi_state::{Outcome, STATES, State};
 use std::alloc::Global;
@@ -162,8 +163,8 @@ fn what_is_not_reached_goes(rt: HostRuntime) -> Result<(), Fail> {
     Ok(())
 }
 
-/// Without O a copy-back table has nothing in the class, since it is written by M that answers `rd`
-/// by O.
+/// Without O a copy-back table has nothing in the class, since its writes lead to M, which answers
+/// `rd` by O.
 #[test]
 fn nothing_may_be_left(rt: HostRuntime) -> Result<(), Fail> {
     let Ok(cached) = library(rt.alloc(), Kind::Invalidate) else {
@@ -175,7 +176,7 @@ fn nothing_may_be_left(rt: HostRuntime) -> Result<(), Fail> {
     Ok(())
 }
 
-/// Each round leaves out one state: E, which has no cells, then M, O, S, and I at last.
+/// Each round leaves out one state: E, which has no cells, then M, O, S, and finally I.
 #[test]
 fn states_may_go_one_by_one(rt: HostRuntime) -> Result<(), Fail> {
     let Ok(cached) = library(rt.alloc(), Kind::Invalidate) else {
@@ -222,15 +223,16 @@ fn nobody() -> Takers {
     }
 }
 
-#[test]
-fn a_small_journal_is_counted(rt: HostRuntime) -> Result<(), Fail> {
+/// Two boards on one line: the first fetches it, the second reads it from the first, writes a word
+/// for both, and invalidates the other copy.
+fn small_journal() -> [Event; 9] {
     let mut boards = Places::new();
     boards.push(BoardNo(1));
     let both = Takers {
         memory: true,
         boards,
     };
-    let journal = [
+    [
         connect(1, BusEvent::Rfo),
         data(1, BusEvent::Rfo, Source::Memory, nobody()),
         connect(2, BusEvent::Rd),
@@ -248,8 +250,12 @@ fn a_small_journal_is_counted(rt: HostRuntime) -> Result<(), Fail> {
         data(2, BusEvent::Bwr, Source::Nobody, both),
         connect(2, BusEvent::Inv),
         data(2, BusEvent::Inv, Source::Nobody, nobody()),
-    ];
-    let report = traffic(&journal);
+    ]
+}
+
+#[test]
+fn a_small_journal_is_counted(rt: HostRuntime) -> Result<(), Fail> {
+    let report = traffic(&small_journal());
     let first = Counts {
         connects: 1,
         words: 4,
@@ -275,5 +281,12 @@ fn a_small_journal_is_counted(rt: HostRuntime) -> Result<(), Fail> {
     assert_eq!(rt; report.board(BoardNo(2)), second);
     assert_eq!(rt; report.board(BoardNo(16)), none);
     assert_eq!(rt; report.memory(), (1, 1));
+    let mut text = Text::new(rt.alloc());
+    text.reserve(4096)?;
+    write_traffic(&report, 2, &mut text);
+    let lines = "traffic 1 connects 1 words 4 local 0 served 1 took 1\n\
+                 traffic 2 connects 3 words 5 local 1 served 0 took 0\n\
+                 traffic memory served 1 took 1\n";
+    assert_eq!(rt; text.bytes(), lines.as_bytes());
     Ok(())
 }

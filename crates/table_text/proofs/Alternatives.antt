@@ -33,7 +33,7 @@ pub wanted : {A E : Type 0} (b : Bool) (x y : A) (d : E) → cond b (Ok x) (Err 
 wanted true x y d e = (refl, cc)
 wanted false x y d e = absurd cc
 
--- what stands after an alternative
+-- what follows an alternative
 abbrev pub tail : Bool → Words → Words
 tail true rest = bar ∷ rest
 tail false rest = []
@@ -102,7 +102,7 @@ local_rest_takes result (w ∷ ws) x e = go (bytes_eq w bar) refl e
         (rw (is_word w bar h) refl)
     go false h e = event (bus_event_of w) refl e
 
--- a local alternative, and what stands after it
+-- a local alternative, and what follows it
 pub local_takes :
     (missing : TableKind) (ws : Words) (x : LocalAction × Bool × Words) → local_at missing ws ≡ Ok x
     → ws ≡ local_words x.0 ++ tail x.1 x.2

@@ -67,7 +67,7 @@ signals false false false = refl
 pub snoop_bars : (a : SnoopAction) → bars (snoop_words a) ≡ 0
 snoop_bars a = rw (state_no_bar a.result) (omega (arith, signals a.response.ch a.response.di a.response.sl))
 
--- between the alternatives there is one bar less than there are alternatives
+-- between the alternatives there is one bar fewer than there are alternatives
 pub alternatives_bars :
     {A : Type 0} (f : A → Words) → ((a : A) → bars (f a) ≡ 0) → (alts : List A) → 0 < length alts
     → bars (alternative_words f alts) < length alts
@@ -81,7 +81,7 @@ alternatives_bars f none (a ∷ b ∷ more) some =
     one : (ws : Words) → bars (bar ∷ ws) ≡ 1 + bars ws
     one ws = refl
 
--- ---- less than so many bars stand before any word
+-- ---- fewer than so many bars come before any word
 
 abbrev pub FewBars : ℕ → Words → Type 0
 FewBars n front = (p : Words) (w : List ℕ) (q : Words) → front ≡ p ++ w ∷ q → bars p < n

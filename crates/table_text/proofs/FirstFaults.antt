@@ -1,4 +1,4 @@
--- A refusal stands at the first place at fault, and has its kind.
+-- A refusal is at the first place at fault, and has its kind.
 use Rattle.std.proofs.Common.{◌≡◌, ℕ, ◌<◌, ◌⊎◌, inl, inr, Bool, true, false, cond, List, [], ◌∷◌, ◌++◌, map, drop, Option, Some, None, Result, Ok, Err, refl, sym, ap, subst, ◌∙◌, append_assoc, arith}
 use Rattle.std.specs.Prelude.{codes}
 use Rattle.std.specs.Str.{bytes_eq}
@@ -208,7 +208,7 @@ cell_fault done t ws front at kind all no_end r parts stays why = go at parts st
     go (Some w) p stays (inr (inl (k, twice, begins))) = judged w begins (inl (twice, k))
     go (Some w) p stays (inr (inr (k, count, begins))) = judged w begins (inr (count, k))
 
--- a line that is no `end` line, at which a cell line stops
+-- a line that is not an `end` line, at which a cell line stops
 cell_stops_in_line :
     (done : List CellLine) (t : Table) (n : ℕ) (ws : Words) (rest : List Place) (kind : TableKind)
     → AllByRecursion HasAlternative done → Marks t (rows done) → is_end ws ≡ false → cell_line t ws ≡ Err kind
@@ -367,7 +367,7 @@ lines_stop done t (l ∷ ls) end f p e = go (is_end l.words) refl e (λ more mid
     go true h e ih = at_end (line_ends (drop 1 l.words)) h refl e
     go false h e ih = at_cell (cell_line t l.words) h refl e ih
 
--- What reading a table refuses stands at the first place at fault, and has its kind.
+-- A refusal in reading a table is at the first place at fault, and has its kind.
 pub table_stops :
     (name : List ℕ) (u : Unread) (f : Fault) → table_at name u ≡ Err f
     → FirstFault table_grammar (places u) f.line f.kind

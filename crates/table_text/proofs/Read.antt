@@ -1,4 +1,4 @@
--- What the exact reading of a table says of what was returned.
+-- What the exact reading of a table says about what was returned.
 use Rattle.std.proofs.Common.{◌≡◌, ℕ, List, ◌++◌, Result, Ok, Err, sym, ap, ◌∙◌}
 use Rattle.std.specs.Prelude.{IfOk, IfErr}
 use Rattle.fb_text.specs.Unread.{Unread}

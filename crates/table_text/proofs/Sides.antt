@@ -1,4 +1,4 @@
--- A line of the productions is not refused, but by a side condition.
+-- A line of the productions is refused only by a side condition.
 use Rattle.std.proofs.Common.{◌≡◌, ℕ, zero, suc, ◌<◌, Bool, true, false, cond, List, [], ◌∷◌, ◌++◌, length, drop, Option, Some, Result, Ok, Err, refl, sym, ap, subst, ◌∙◌, arith}
 use Rattle.std.proofs.lemmas.List.{append-nil}
 use Rattle.fb_text.specs.Lines.{is_empty}
@@ -17,7 +17,7 @@ use Rattle.table_text.proofs.EventWords.{no_local_event}
 use Rattle.table_text.proofs.Alternatives.{tail}
 use Rattle.table_text.proofs.Again.{left, local_again, snoop_again}
 
--- a fault that is no side condition's
+-- a fault that does not come from a side condition
 abbrev pub IsHard : TableKind → Type 0
 IsHard UnknownWord = Unit {0}
 IsHard NoCell = Unit {0}

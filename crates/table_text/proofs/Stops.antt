@@ -218,7 +218,7 @@ snoop_local s ch di sl u us k p1 p2 p3 more =
 abbrev answered : State → Bool → Bool → Bool → Bool × Words → Result (SnoopAction × Bool × Words) TableKind
 answered s ch di sl after = Ok (answer_of s ch di sl, after.0, after.1)
 
--- the signals that stand in front of other words
+-- the signals in front of other words
 split_signal :
     (name : List ℕ) (ws : Words) (x : Bool × Words) → signal_at name ws ≡ x → ws ≡ signal_words x.0 name ++ x.1
 split_signal name ws x e = subst (λ (y : Bool × Words). ws ≡ signal_words y.0 name ++ y.1) e (signal_takes name ws)

@@ -14,7 +14,7 @@ use Rattle.table_text.proofs.Alternatives.{tail, is_word}
 use Rattle.table_text.proofs.Again.{left}
 use Rattle.table_text.proofs.Stops.{Stops, WhyOne, IsFrontOf, equal, refused}
 
--- why what stands after an event is refused
+-- why what follows an event is refused
 abbrev pub WhyTail : (Words → Type 0) → Words → Option (List ℕ) → TableKind → Type 0
 WhyTail Begins front None kind =
     ((kind ≡ NoCell) × (front ≡ codes "=" ∷ []))
@@ -35,7 +35,7 @@ module _ {A X : Type 0} (first : List ℕ → Option X) (read : TableKind → Wo
     abbrev pub BeginsAlts : Words → Type 0
     BeginsAlts front = (alts : List A) × (more : Words) × (0 < length alts) × (alternative_words f alts ≡ front ++ more)
 
-    -- why alternatives are refused, so many having room
+    -- why alternatives are refused, where there is room for so many
     abbrev pub WhyAlts : ℕ → TableKind → Words → Option (List ℕ) → TableKind → Type 0
     WhyAlts room missing front None kind =
         ((front ≡ []) × (kind ≡ missing)) ⊎ ((p : Words) × (front ≡ p ++ bar ∷ []) × (kind ≡ UnknownWord))

@@ -18,7 +18,7 @@ AllStand t [] = Unit {0}
 AllStand t (c ∷ cs) = CanStand t c × AllStand (entered t c) cs
 
 -- what was unread is the text of the table, of cell lines that can stand, up to where the scan
--- stands after it
+-- is after it
 pub record IsTable (name : List ℕ) (u : Unread) (after : Table) (left : Unread) : Type 0 where
   pub cells : List CellLine
   pub stand : AllStand (empty_table name) cells

@@ -55,7 +55,7 @@ abbrev pub this_word : List ℕ → Words → Result Words TableKind
 this_word w [] = Err UnknownWord
 this_word w (v ∷ ws) = if bytes_eq v w then Ok ws else Err UnknownWord
 
--- whether `|` stands next, where the line may also end
+-- whether `|` comes next, where the line may also end
 abbrev pub bar_or_end : Words → Result (Bool × Words) TableKind
 bar_or_end [] = Ok (false, [])
 bar_or_end (w ∷ ws) = if bytes_eq w (codes "|") then Ok (true, ws) else Err UnknownWord
@@ -88,7 +88,7 @@ local_rest result (w ∷ ws) =
 unfoldable pub local_at : TableKind → Words → Result (LocalAction × Bool × Words) TableKind
 local_at missing ws = word_by outcome_of missing ws >>= λ result. local_rest result.0 result.1
 
--- a signal that may stand next
+-- a signal that may come next
 abbrev pub signal_at : List ℕ → Words → Bool × Words
 signal_at name [] = (false, [])
 signal_at name (w ∷ ws) = if bytes_eq w name then (true, ws) else (false, w ∷ ws)
@@ -119,7 +119,7 @@ snoop_at missing ws = word_by state_of missing ws >>= λ state. snoop_rest state
 
 -- ---- cells
 
--- no more alternatives have room: a word that can begin one is the fault
+-- there is no room for more alternatives: a word that can begin one is the fault
 abbrev pub seventeenth : {Y : Type 0} → Y → Result Table TableKind
 seventeenth y = Err (Alternatives 17)
 

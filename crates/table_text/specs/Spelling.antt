@@ -102,7 +102,7 @@ BreaksCell earlier words here kind =
 
 -- ---- the kinds of the other faults
 
--- `=` stands last
+-- `=` is last
 abbrev pub EndsWithEquals : List Item → Type 0
 EndsWithEquals before = (front : List Item) × (before ≡ front ++ word (codes "=") ∷ [])
 

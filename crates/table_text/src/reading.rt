@@ -58,7 +58,7 @@ fn state(scan: &mut Scan, missing: TableKind) -> Result<State, TableFault>
     }
 }
 
-/// Whether the word taken is `|`. It may be that none was left.
+/// Whether the word taken is `|`. There may have been none left.
 fn bar(scan: &Scan, word: Option<&[u8]>) -> Result<bool, TableFault>
     ensures { GivesBar result scan.now.line (option_copied word.entry) }
 {
@@ -298,7 +298,7 @@ fn line_end(scan: &mut Scan) -> Result<(), TableFault>
     }
 }
 
-/// Reads one line of a table. Answers whether it was the `end` line.
+/// Reads one line of a table. Returns whether it was the `end` line.
 #[tactic(auto, unfolding(crate::specs::Reading::table_line, crate::specs::Reading::cell_line))]
 fn line(scan: &mut Scan, table: &mut Table) -> Result<bool, TableFault>
     ensures value { Gives (λ ended. (ended, table.new)) result scan.old.line
@@ -320,7 +320,7 @@ fn line(scan: &mut Scan, table: &mut Table) -> Result<bool, TableFault>
 /// Reads the rest of a table of this name, from just after its name to the end of its `end` line.
 #[tactic(auto, using(crate::proofs::Read::is_spelled, crate::proofs::Read::is_read, crate::proofs::Read::is_first, crate::proofs::Bytes::is_read_again))]
 pub fn read_table(alloc: Global, scan: &mut Scan, name: Name) -> Result<Table, TableFault>
-    // The text, up to where the scan stands, spells the table that was read.
+    // The text, up to where the scan is, spells the table that was read.
     ensures spelled { IfOk result (λ t. IsTable name scan.old t scan.new) }
     // A table that the text spells is read, whatever follows it.
     ensures only { (cells : List CellLine) (rest : List Item) → AllStand (empty_table name) cells

@@ -46,23 +46,40 @@ fn faults_stand_on_their_lines(rt: HostRuntime) {
         ("table un version 2\nend\n", 1, TableKind::UnknownWord),
         ("table un\nend end\n", 2, TableKind::UnknownWord),
         ("table un\n\nI read = I|I\n", 3, TableKind::UnknownWord),
+    ];
+    for (text, line, kind) in rows {
+        assert_eq!(rt;
+            fault_of(rt.alloc(), text),
+            Some(TableFault::Bad { line, kind }),
+            "{text}"
+        );
+    }
+}
+
+#[test]
+fn alternatives_are_counted_before_the_seventeenth_is_read(rt: HostRuntime) {
+    let rows = [
         (
-            "table un\n\nI read = I | I | I | I | I | I | I | I | I | I | I | I | I | I | I | I | M rd x\n",
+            "table un\n\n\
+             I read = I | I | I | I | I | I | I | I | I | I | I | I | I | I | I | I | M rd x\n",
             3,
             TableKind::Alternatives { count: 17 },
         ),
         (
-            "table un\n\nI read = I | I | I | I | I | I | I | I | I | I | I | I | I | I | I | I | X\n",
+            "table un\n\n\
+             I read = I | I | I | I | I | I | I | I | I | I | I | I | I | I | I | I | X\n",
             3,
             TableKind::UnknownWord,
         ),
         (
-            "table un\nI rd = I | I | I | I | I | I | I | I | I | I | I | I | I | I | I | I | CH:S/E\n",
+            "table un\n\
+             I rd = I | I | I | I | I | I | I | I | I | I | I | I | I | I | I | I | CH:S/E\n",
             2,
             TableKind::UnknownWord,
         ),
         (
-            "table un\n\nI read = I | I | I | I | I | I | I | I | I | I | I | I | I | I | I | I |\n",
+            "table un\n\n\
+             I read = I | I | I | I | I | I | I | I | I | I | I | I | I | I | I | I |\n",
             3,
             TableKind::UnknownWord,
         ),
@@ -79,7 +96,8 @@ fn faults_stand_on_their_lines(rt: HostRuntime) {
 #[test]
 fn a_table_is_read_to_its_end(rt: HostRuntime) -> Result<(), Fail> {
     let text =
-        "table un   # no cache\nI write = I uwr | I ubw\n M rd = O CH DI\r\n\tI read = CH:S/E rd\nend # of it\nboard 1";
+        "table un   # no cache\nI write = I uwr | I ubw\n M rd = O CH DI\r\n\tI read = CH:S/E rd\n\
+         end # of it\nboard 1";
     let mut scan = Scan::over(text.as_bytes());
     assert!(rt; scan.next_line());
     assert_eq!(rt; scan.next_word().is_some(), true);

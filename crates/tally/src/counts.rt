@@ -75,7 +75,7 @@ fn reply_if_done(done: &Option<Done>) -> u64
     }
 }
 
-/// The word that was read in an event, and 0 where none was.
+/// The word that an event read, or 0 where it read none.
 fn reply_in(event: &Event) -> u64
     ensures reply { result ≡ reply_in event.now }
     ensures word { result < 2 ^ 32 }

@@ -69,7 +69,8 @@ fn a_small_journal(rt: HostRuntime) -> Result<(), Fail> {
     }
     write_tally(3, &journal, &mut text);
     let wanted =
-        "seed 3\naccesses 100000\nevents 7\nrd 2\nrfo 0\ninv 0\nurd 0\nbwr 0\nuwr 0\nubw 0\npas 0\nflu 1\nsum 4294967302\n";
+        "seed 3\naccesses 100000\nevents 7\nrd 2\nrfo 0\ninv 0\nurd 0\nbwr 0\nuwr 0\nubw 0\n\
+         pas 0\nflu 1\nsum 4294967302\n";
     assert_eq!(rt; text.bytes(), wanted.as_bytes());
     Ok(())
 }

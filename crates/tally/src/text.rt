@@ -37,8 +37,8 @@ fn event_lines(text: &mut Text, counts: &[u64; EVENT_COUNT], events: &[BusEvent]
     }
 }
 
-/// Appends the tally of a generated setup that was run: the number that it was made of, and what
-/// its journal tells.
+/// Appends the tally of a generated setup that was run: the number that it was made from, and the
+/// counts of its journal.
 pub fn write_tally(n: u64, journal: &[Event], text: &mut Text)
     requires events { length journal.now < 2 ^ 32 }
     requires room { 512 ≤ text.old.spare }

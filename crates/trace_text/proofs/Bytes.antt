@@ -7,7 +7,7 @@ use Rattle.fb_text.specs.Places.{Words}
 use Rattle.trace_text.specs.Reading.{pieces}
 use Rattle.trace_text.proofs.Numbers.{AreDigits, decimal_digits}
 
--- The byte does not stand in the text.
+-- The byte does not occur in the text.
 abbrev pub NoneOf : ℕ → List ℕ → Type 0
 NoneOf byte text = AllByRecursion (λ b. eqb b byte ≡ false) text
 
@@ -81,7 +81,7 @@ digits_ink (d ∷ ds) digits =
 pub decimal_ink : (n : ℕ) → n < 2 ^ 64 → is_ink (decimal n) ≡ true
 decimal_ink n small = digits_ink (decimal n) (decimal_digits n small)
 
--- A byte up to the space stands in no word.
+-- No word has a byte up to the space.
 pub ink_none : (byte : ℕ) (w : List ℕ) → byte ≤ 32 → is_ink w ≡ true → NoneOf byte w
 ink_none byte [] low ink = tt
 ink_none byte (b ∷ w) low ink =

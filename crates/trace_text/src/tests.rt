@@ -93,6 +93,10 @@ fn lines_mean_their_events(rt: HostRuntime) {
             })
         )
     );
+}
+
+#[test]
+fn lines_mean_local_events(rt: HostRuntime) {
     let line = b"local 1 M to O done read 5 = 7";
     match read_event(line) {
         Some(
@@ -108,6 +112,10 @@ fn lines_mean_their_events(rt: HostRuntime) {
         }
         _ => assert!(rt; false),
     }
+}
+
+#[test]
+fn lines_mean_transactions(rt: HostRuntime) {
     match read_event(b"connect 3 rd line 9 to CH:S/E answers 1=S 2=O+CH+DI") {
         Some(Event::Connect(connected)) => {
             assert_eq!(rt; connected.event, BusEvent::Rd);
@@ -128,6 +136,10 @@ fn lines_mean_their_events(rt: HostRuntime) {
         }
         _ => assert!(rt; false),
     }
+}
+
+#[test]
+fn lines_mean_data_phases(rt: HostRuntime) {
     match read_event(b"data 2 bwr line 0 from 3 into memory,1 states 2=O 1=S done evict") {
         Some(Event::DataPhase(carried)) => {
             assert_eq!(rt; carried.source, Source::Board(BoardNo(3)));

@@ -92,7 +92,7 @@ fn response(word: &[u8]) -> Option<Response>
     }
 }
 
-/// The first byte of a text, if there is one, and what stands after it.
+/// The first byte of a text, if there is one, and what follows it.
 fn first_byte(text: &[u8]) -> (&[u8], &[u8])
     ensures front { result.0.now ≡ take 1 text.now }
     ensures back { result.1.now ≡ drop 1 text.now }

@@ -143,7 +143,7 @@ fn printed(alloc: Global, machine: &Machine) -> Result<MemSink, Fail> {
     let Ok(mut sink) = MemSink::new(alloc, 100_000, 100_000, Vec::new(alloc)) else {
         return Err(Fail::from("no sink"));
     };
-    match print_run(machine, &mut sink, &mut line) {
+    match print_run(machine, &mut sink, line) {
         Ok(()) => Ok(sink),
         Err(_) => Err(Fail::from("no room")),
     }

@@ -65,7 +65,7 @@ fn goes_on_to(
     comes_to(alloc, trace.as_bytes(), wanted)
 }
 
-/// How many letters `x` stand in a line that is too long for an event.
+/// The number of letters `x` in a line that is too long for an event.
 const LONG: usize = 300;
 
 /// A line that is too long for an event, without its line feed.

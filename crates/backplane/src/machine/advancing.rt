@@ -18,7 +18,7 @@ use crate::plan::Plan;
 use bus_signals::BoardNo;
 
 impl Machine {
-    /// What a board that is not connected is to do in its turn.
+    /// What a board that is not connected does in its turn.
     fn plan(&self, board: BoardNo) -> Plan
         requires board { IsBoard self.now board }
         requires free { is_connected (configuration self.now).phase board ≡ false }
@@ -31,7 +31,7 @@ impl Machine {
         }
     }
 
-    /// Goes by a plan, where it is an event.
+    /// Carries out a plan, if it is an event.
     fn go(&mut self, board: BoardNo, plan: Plan) -> Moved
         requires { (event : Event)
             → planned self.old.setup (configuration self.old) board plan ≡ Did event
@@ -78,8 +78,8 @@ impl Machine {
         }
     }
 
-    /// A turn of a board: it does one event, or tells why it waits, or that its script is at its
-    /// end.
+    /// A turn of a board: it does one event, or answers why it waits, or that its script is at
+    /// its end.
     pub fn advance(&mut self, board: BoardNo) -> Moved
         requires { IsBoard self.old board }
         ensures told { result ≡ told (turn_of self.old board) }
@@ -99,7 +99,7 @@ impl Machine {
         moved
     }
 
-    /// The same, of which less is said.
+    /// `advance` without the clauses that follow from soundness.
     fn turn(&mut self, board: BoardNo) -> Moved
         requires { IsBoard self.old board }
         ensures told { result ≡ told (turn_of self.old board) }

@@ -1,4 +1,4 @@
-//! An event that is given: it is done where it may happen, and refused where it may not.
+//! Applying a given event: it is done if it may happen, and refused if it may not.
 
 ghost use Rattle.std.specs.Prelude.{◌≡◌, ◌↔◌, ◌≤◌, IsOk, IsSome, IsTrue, OnErr, OnOk, length};
 ghost use Rattle.bus_model.specs.Configuration.{present_access};
@@ -22,7 +22,7 @@ use journal::{Carried, Event};
 pub struct NotARun;
 
 impl Machine {
-    /// The access that a board is to do next. A board that is none of the machine's has none.
+    /// The access that a board is to do next. A board that the machine does not have has none.
     fn next(&self, board: BoardNo) -> Option<Access>
         ensures access { result
             ≡ present_access self.now.setup (configuration self.now).boards board }
@@ -136,7 +136,7 @@ impl Machine {
         applied
     }
 
-    /// The same, of which less is said.
+    /// `apply` without the clauses that follow from soundness.
     fn attempt(&mut self, event: &Event) -> Result<(), NotARun>
         ensures exact { IsOk result ↔ MayHappen self.old event.now }
         ensures applied { OnOk result (self.new ≡ happened self.old event.now) }

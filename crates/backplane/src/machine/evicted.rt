@@ -1,4 +1,4 @@
-//! The pool of frames after a run in which a line had to go for another.
+//! The pool of frames after a run in which one line had to make room for another.
 
 use crate::assembling::assemble;
 use bus_signals::{Access, Addr, BoardNo, BusEvent, LineNo, LocalEvent, Response};

@@ -11,7 +11,7 @@ use crate::machine::Machine;
 use crate::moved::Moved;
 use bus_signals::BoardNo;
 
-/// How many events a turn came to.
+/// The number of events of a turn.
 fn events_of(moved: Moved) -> u8
     ensures { result ≡ events_told moved }
 {

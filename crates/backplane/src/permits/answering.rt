@@ -50,7 +50,7 @@ fn does_answer_fit(
     own && alternative
 }
 
-/// How many answers are taken after a board's turn to answer, if these many were before: one more
+/// How many answers are taken after a board's turn to answer, if this many were before: one more
 /// where the board holds the line and the next answer is one that it may give.
 fn answered(rack: &Rack, connected: &Connected, board: BoardNo, before: usize) -> Option<usize>
     requires board { IsBoard rack.now board }

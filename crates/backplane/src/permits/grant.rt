@@ -21,7 +21,7 @@ fn is_idle(phase: &Phase) -> bool
     matches!(phase, Phase::Idle)
 }
 
-/// Whether a board, which may be none of the machine's, has raised a request.
+/// Whether a board has raised a request. It may be a board that the machine does not have.
 fn has_raised(parts: &Parts, board: BoardNo) -> bool
     requires { AreOfOneSetup parts.now }
     ensures { IsTrue result ↔ HasRaised parts.now board }

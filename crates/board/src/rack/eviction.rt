@@ -1,4 +1,4 @@
-//! The frame of a line that went is the frame of the line that came.
+//! The frame of an evicted line is given to the line that replaces it.
 
 use super::Rack;
 use crate::tests::narrow_rack;
@@ -7,7 +7,7 @@ use line_pool::FrameNo;
 use moesi_state::State;
 use std::test::Fail;
 
-// What the rack is told in the run of a board with one frame that writes line 0 and then line 1.
+// The calls to the rack in the run of a board with one frame that writes line 0 and then line 1.
 #[test]
 fn one_frame_is_out_after_an_eviction(rt: HostRuntime) -> Result<(), Fail> {
     let board = BoardNo(1);

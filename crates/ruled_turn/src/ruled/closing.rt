@@ -35,7 +35,7 @@ impl<M: Turned> Ruled<M> {
         all
     }
 
-    /// Gives the value back. The list has all seats: there is one of each, so their number says it.
+    /// Gives the value back. The list has all seats: no two are the same, so their count shows it.
     pub fn close(self, seats: Vec<BoardSeat<M>>) -> M
         requires seats { All (IsSeatOf M.base M.admits self) seats.items }
         requires all { length seats.items ≡ seats_of self }

@@ -1,4 +1,4 @@
-//! What a seat tells of itself.
+//! What can be read from a seat.
 
 ghost use Rattle.std.specs.Prelude.{◌≡◌, ◌≤◌, ◌^◌};
 ghost use Rattle.ruled_turn.specs.Seats.{number, turns};

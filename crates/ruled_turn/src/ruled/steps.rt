@@ -12,11 +12,11 @@ use std::hint;
 use std::sync::Wait;
 use std::time::Duration;
 
-// A seat looks so often before it sleeps. That is longer than it takes to wake a thread, or else
+// How often a seat looks before it sleeps. This takes longer than waking a thread, or else
 // two seats that take turns could put each other to sleep again and again.
 const MOST_LOOKS: u32 = 5_000;
 
-// A seat that sleeps looks again after so many milliseconds even if nobody wakes it.
+// A seat that sleeps looks again after this many milliseconds even if nobody wakes it.
 const LONGEST_SLEEP: u64 = 10;
 
 impl<M: Turned> Ruled<M> {

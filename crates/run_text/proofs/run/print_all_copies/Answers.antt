@@ -31,7 +31,6 @@ loop-place-preserved g c =
           (places-more (board_copies (configuration c.args.machine.now) (line_count c.args.machine.now.setup))
           machine.setup.boards c.loop-place.place (omega (arith, boards, test))) c.loop-place.invariant.paged
           c.in_default.ensures.paged;
-      ready = c.in_default.ensures.ready;
     }
 
 pub returns-clause-paged : goal.returns-clause-paged

@@ -29,7 +29,6 @@ loop-place-preserved g c =
           whole-behind c.in_default.field-0
           (places-more (board_replies (entries c.args.machine.now.journal)) machine.setup.boards c.loop-place.place
           (omega (arith, boards, test))) c.loop-place.invariant.paged c.in_default.ensures.paged;
-      ready = c.in_default.ensures.ready;
     }
 
 pub returns-clause-paged : goal.returns-clause-paged

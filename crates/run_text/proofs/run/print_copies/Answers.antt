@@ -20,5 +20,4 @@ loop-number-preserved g c = record {
       whole-behind c.in_default.field-0
       (numbers-more (copy_of (configuration c.args.machine.now) c.args.board) c.loop-number.number)
       c.loop-number.invariant.paged c.in_default.ensures.paged;
-  ready = c.in_default.ensures.ready;
 }

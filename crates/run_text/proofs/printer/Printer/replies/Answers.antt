@@ -2,7 +2,7 @@ use Rattle.std.proofs.Common.{drop, suc}
 use Rattle.std.specs.List.{flat_map}
 use Rattle.run_text.specs.Lines.{entry_line}
 use Rattle.run_text.proofs.Behind.{failed-behind, whole-behind, flat_map-at, flat_map-more}
-use Rattle.run_text.proofs.printing.print_replies.Goals as goal
+use Rattle.run_text.proofs.printer.Printer.replies.Goals as goal
 
 pub returns-in-Err-clause-paged : goal.returns-in-Err-clause-paged
 returns-in-Err-clause-paged g c =
@@ -21,5 +21,4 @@ loop-entry-preserved g c =
           whole-behind c.in_default.field-0
           (flat_map-more entry_line items at c.entry-item.result c.loop-entry-test.true c.entry-item.is)
           c.loop-entry.invariant.paged c.in_default.ensures.paged;
-      ready = c.in_default.ensures.ready;
     }

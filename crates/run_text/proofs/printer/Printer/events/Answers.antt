@@ -3,7 +3,7 @@ use Rattle.std.proofs.lemmas.Grind.{common_steps}
 use Rattle.std.specs.List.{flat_map}
 use Rattle.trace_text.specs.Spelling.{line_of_event}
 use Rattle.run_text.proofs.Behind.{failed-behind, whole-behind, flat_map-at, flat_map-more}
-use Rattle.run_text.proofs.printing.print_events.Goals as goal
+use Rattle.run_text.proofs.printer.Printer.events.Goals as goal
 
 pub returns-in-Err-clause-paged : goal.returns-in-Err-clause-paged
 returns-in-Err-clause-paged g c =
@@ -24,5 +24,4 @@ loop-event-preserved g c =
           c.loop-event.invariant.paged c.in_default.ensures.paged;
       spelled = grind (arith, common_steps);
       in_range = grind (arith, common_steps);
-      ready = c.in_default.ensures.ready;
     }
