@@ -11,6 +11,7 @@ use Rattle.bus_model.specs.Carrying.{carried_of}
 use Rattle.bus_model.specs.Soundness.{Sound}
 use Rattle.bus_model.specs.Steps.{Can}
 use Rattle.bus_model.specs.Turns.{Did, own_transaction}
+use Rattle.bus_model.proofs.TurnInParts.{in_parts}
 use Rattle.bus_model.specs.TurnParts.{turn_for, access_turn}
 use Rattle.coherence.proofs.Progress.{board_there}
 use Rattle.coherence.proofs.Turns.{turns_are_steps}
@@ -145,7 +146,8 @@ connected-turn m t b known is same =
     let present = master-present m.setup m.journal (configuration m) t known.sound is in
     let at : present_access m.setup (configuration m).boards b ≡ Some present.0 =
     ap (λ (x : ℕ). present_access m.setup (configuration m).boards x) (sym same) ∙ present.1 in
-    ap (turn_for m.setup (configuration m) b) at
+    in_parts m.setup (configuration m) b
+    ∙ ap (turn_for m.setup (configuration m) b) at
     ∙ ap (access_turn m.setup (configuration m) b present.0) (own-is (configuration m).phase t b is same)
 
 -- What a turn does may happen.

@@ -93,8 +93,30 @@ abbrev pub victim_for : Setup → Configuration → ℕ → Access → Outcome �
 victim_for setup c board access outcome =
     if is_invalid outcome then None else victim setup c.rows board (access_line access)
 
--- What a turn of a board does: the first of these eight cases that fits. Cases 5 to 8 are those of
--- a transaction: the pick's, or the flush of a victim.
+-- A turn of a board does the first of eight cases that fits. `turn` has cases 1 to 4, and this has
+-- cases 5 to 8: those of a transaction, which is the pick's or the flush of a victim.
+abbrev pub by_bus : Setup → Configuration → ℕ → ℕ → BusEvent → Outcome → Turn
+by_bus setup c board line event outcome =
+    -- 5. The bus is granted to the board.
+    if is_granted c.phase board
+    then Did (Connect (transaction_of setup c board line event outcome))
+    -- 6. No request is raised.
+    else elim (is_raised c.boards board) [
+      | false ↦ Did (Raise board)
+      | true ↦
+          elim c.phase [
+            -- 7. The bus is idle: whoever wins gets it.
+            | Idle ↦
+                let numbers = competing_numbers setup c.boards in
+                Did (Grant board (winner_of setup c.boards) (settled_lines numbers)
+                (settled_rounds numbers))
+            -- 8. Another board has the bus.
+            | Granted b ↦ Waits (BusTaken b)
+            | Connected t ↦ Waits (BusTaken t.master)
+          ]
+    ]
+
+-- What a turn of a board does.
 abbrev pub turn : Setup → Configuration → ℕ → Turn
 turn setup c board =
     elim (present_access setup c.boards board) [
@@ -119,39 +141,18 @@ turn setup c board =
                       (record { access = access; reply = reply }))
                   | Some event ↦
                       elim (victim_for setup c board access chosen.result) [
-                        | None ↦ by_bus line event chosen.result
+                        | None ↦ by_bus setup c board line event chosen.result
                         -- 4. A victim must go first.
                         | Some v ↦
                             if is_clean v.1
                             then (if is_held c.phase board v.0
                             then Waits (LineHeld (bus_holder c.phase) v.0)
                             else Did (Drop board v.0 v.1))
-                            else by_bus v.0 Flu (Fixed I)
+                            else by_bus setup c board v.0 Flu (Fixed I)
                       ]
                 ]
           ]
     ]
-  where
-    by_bus : ℕ → BusEvent → Outcome → Turn
-    by_bus line event outcome =
-        -- 5. The bus is granted to the board.
-        if is_granted c.phase board
-        then Did (Connect (transaction_of setup c board line event outcome))
-        -- 6. No request is raised.
-        else elim (is_raised c.boards board) [
-          | false ↦ Did (Raise board)
-          | true ↦
-              elim c.phase [
-                -- 7. The bus is idle: whoever wins gets it.
-                | Idle ↦
-                    let numbers = competing_numbers setup c.boards in
-                    Did (Grant board (winner_of setup c.boards) (settled_lines numbers)
-                    (settled_rounds numbers))
-                -- 8. Another board has the bus.
-                | Granted b ↦ Waits (BusTaken b)
-                | Connected t ↦ Waits (BusTaken t.master)
-              ]
-        ]
 
 -- The events of these turns, one after another.
 abbrev pub events_of_turns : Setup → Configuration → List ℕ → List Event

@@ -13,6 +13,7 @@ use Rattle.bus_model.specs.Setup.{AllInClass, Setup, WellFormed, board_places, c
 use Rattle.bus_model.specs.Soundness.{Sound}
 use Rattle.bus_model.specs.Steps.{Can, ForVictim, is_quiet}
 use Rattle.bus_model.specs.Turns.{Did, LineHeld, Waits, bus_holder, decide, decide_answer, own_transaction, transaction_of, victim_for}
+use Rattle.bus_model.proofs.TurnInParts.{in_parts}
 use Rattle.bus_model.specs.TurnParts.{access_turn, action_turn, bus_turn, local_turn, request_turn, room_turn, transaction_turn, turn_for}
 use Rattle.bus_signals.specs.Accesses.{kind_of}
 use Rattle.bus_signals.specs.declared.Access.{Access}
@@ -490,7 +491,8 @@ module _ (setup : Setup) (events : List Event) (c : Configuration) (well : WellF
 
 -- What a turn does is a step.
 pub turns_are_steps : TurnsAreSteps
-turns_are_steps setup events c board event well accepted s did = go (present_access setup c.boards board) refl did
+turns_are_steps setup events c board event well accepted s did =
+    go (present_access setup c.boards board) refl (sym (in_parts setup c board) ∙ did)
   where
     go :
         (o : Option Access) → present_access setup c.boards board ≡ o → turn_for setup c board o ≡ Did event

@@ -42,10 +42,11 @@ fn book_report(alloc: Global, bytes: &[u8]) -> Result<Text, Reply>
     ensures report { IfOk result
         (λ text. IfOk (book_at (unread bytes.now)) (λ tables. text.bytes ≡ report tables)) }
     ensures free { OnOk result
-        (on_read Role.Setup (λ tables. if_accepted tables None) (book_at (unread bytes.now)) ≡ None) }
+        (on_read Role.Setup (λ tables. if_accepted tables None) (book_at (unread bytes.now))
+        ≡ None) }
     ensures stops { IfErr result (Gives (λ o.
-        on_read Role.Setup (λ tables. if_accepted tables None) (book_at (unread bytes.now)) ≡ Some o)
-        (λ role. ⊥)) }
+        on_read Role.Setup (λ tables. if_accepted tables None) (book_at (unread bytes.now))
+        ≡ Some o) (λ role. ⊥)) }
 {
     match read_book(alloc, bytes) {
         Ok(tables) => report_on(alloc, &tables),
@@ -76,7 +77,8 @@ fn verdicts(alloc: Global, bytes: &[u8]) -> Result<Text, Reply>
     ensures report { IfOk result
         (λ text. IfOk (tables_at (unread bytes.now)) (λ tables. text.bytes ≡ report tables)) }
     ensures free { OnOk result
-        (on_read Role.Setup (λ tables. if_accepted tables None) (tables_at (unread bytes.now)) ≡ None) }
+        (on_read Role.Setup (λ tables. if_accepted tables None) (tables_at (unread bytes.now))
+        ≡ None) }
     ensures stops { IfErr result (Gives (λ o.
         on_read Role.Setup (λ tables. if_accepted tables None) (tables_at (unread bytes.now))
         ≡ Some o) (λ role. ⊥)) }

@@ -83,8 +83,11 @@ pub fn replay_file<F: Shelf>(
         (λ m. IfSome (F.file shelf.old) (λ file. length (file name.now) ≤ limit)) }
     ensures replayed { IfOk result
         (λ m. IfSome (F.file shelf.old) (λ file. replayed machine (file name.now) ≡ Ok m)) }
-    ensures fault { IfErr result (TraceCause (option_map (λ file. file name.now) (F.file shelf.old)) limit (Rose (F.faults shelf.old) (F.faults shelf.new))
-        (λ fault. IfSome (F.file shelf.old) (λ file. (length (file name.now) ≤ limit) × (replayed machine (file name.now) ≡ Err fault)))) }
+    ensures fault { IfErr result
+        (TraceCause (option_map (λ file. file name.now) (F.file shelf.old)) limit
+        (Rose (F.faults shelf.old) (F.faults shelf.new))
+        (λ fault. IfSome (F.file shelf.old) (λ file. (length (file name.now) ≤ limit)
+        × (replayed machine (file name.now) ≡ Err fault)))) }
     ensures later { F.faults shelf.old ≤ F.faults shelf.new }
     ensures file { F.file shelf.new ≡ F.file shelf.old }
 {

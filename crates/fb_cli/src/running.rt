@@ -44,7 +44,8 @@ fn play_turns(alloc: Global, setup: Setup, turns: &[u8]) -> Result<Answer, NoMem
 fn play_seed(alloc: Global, setup: Setup, seed: u64) -> Result<Answer, NoMemory>
     requires { list_all is_accepted setup.tables ≡ true }
     ensures output { IfOk result (λ answer.
-        answer_output answer ≡ record { status = 0; text = played_text setup (turns_of seed setup) }) }
+        answer_output answer
+        ≡ record { status = 0; text = played_text setup (turns_of seed setup) }) }
     ensures run { IfOk result (λ answer. IsTextOfRun setup (answer_output answer).text) }
 {
     let accesses = setup.accesses();

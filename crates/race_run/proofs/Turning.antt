@@ -16,6 +16,7 @@ use Rattle.bus_model.specs.Steps.{Can, after, is_quiet}
 use Rattle.bus_model.specs.Runs.{Leads, Run, after_all}
 use Rattle.bus_model.specs.Soundness.{Sound}
 use Rattle.bus_model.specs.Turns.{Turn, Did, Waits, Finished, LineHeld, turn, victim_for, decide, own_transaction, bus_holder}
+use Rattle.bus_model.proofs.TurnInParts.{in_parts}
 use Rattle.bus_model.specs.TurnParts.{turn_for, access_turn, action_turn, transaction_turn, room_turn, bus_turn, request_turn, local_turn}
 use Rattle.coherence.proofs.Steps.{every_run_is_sound}
 use Rattle.coherence.proofs.Turns.{turns_are_steps}
@@ -104,7 +105,7 @@ module _ (setup : Setup) (c : Configuration) (board : ℕ) where
 
   -- A turn is reported as finished exactly where there is nothing to do.
   pub at_end : Moved.Finished ≡ told (turn setup c board) → present_access setup c.boards board ≡ None
-  at_end = go (present_access setup c.boards board)
+  at_end end = go (present_access setup c.boards board) (end ∙ ap told (in_parts setup c board))
     where
       never : (t : Turn) → IsOwn board t → Moved.Finished ≡ told t → ⊥
       never (Did event) own e = cc
@@ -119,7 +120,7 @@ module _ (setup : Setup) (c : Configuration) (board : ℕ) where
 
   -- The event of a turn is made by the board.
   pub is_maker : (event : Event) → turn setup c board ≡ Did event → maker event ≡ board
-  is_maker event = go (present_access setup c.boards board)
+  is_maker event did = go (present_access setup c.boards board) (sym (in_parts setup c board) ∙ did)
     where
       own : (t : Turn) → IsOwn board t → t ≡ Did event → maker event ≡ board
       own t is e = subst (IsOwn board) e is
@@ -273,7 +274,8 @@ finished :
 finished setup before after who is =
     let none = at_end setup (reached setup before) who is.told in
     let same : after ≡ before =
-    is.history ∙ ap (λ o. history_after before who (turn_for setup (reached setup before) who o)) none in
+    is.history ∙ ap (λ t. history_after before who t) (in_parts setup (reached setup before) who)
+    ∙ ap (λ o. history_after before who (turn_for setup (reached setup before) who o)) none in
     subst (λ (h : List (ℕ × Event)). IsAtEnd setup h who) (sym same) none
 
 -- The same for what the seat has seen.

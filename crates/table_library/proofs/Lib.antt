@@ -10,3 +10,4 @@ pub mod Largest
 pub mod Boards
 pub mod RuleLaws
 pub mod LibraryLaws
+pub mod TrafficLines

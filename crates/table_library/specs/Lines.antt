@@ -1,8 +1,9 @@
 -- The lines of what a run moved.
 use Rattle.std.specs.Prelude.{ℕ, zero, suc, List, [], ◌∷◌, ◌++◌, codes, decimal}
 use Rattle.fb_text.specs.Written.{line_bytes}
+use Rattle.journal.specs.declared.event.Event.{Event}
 use Rattle.table_library.specs.declared.counts.Counts.{Counts}
-use Rattle.table_library.specs.Traffic.{Traffic, counts_at}
+use Rattle.table_library.specs.Traffic.{counts_of, memory_counts}
 
 -- The line of a board.
 abbrev pub board_line : ℕ → Counts → List ℕ
@@ -21,12 +22,13 @@ memory_line counts =
     ∷ codes "served" ∷ decimal counts.0
     ∷ codes "took" ∷ decimal counts.1 ∷ [])
 
--- The lines of the first boards of a report, in order.
-abbrev pub board_lines : Traffic → ℕ → List ℕ
-board_lines report zero = []
-board_lines report (suc boards) =
-    board_lines report boards ++ board_line (suc boards) (counts_at report (suc boards))
+-- The lines of the first boards, in order.
+abbrev pub board_lines : (ℕ → Counts) → ℕ → List ℕ
+board_lines counts zero = []
+board_lines counts (suc boards) =
+    board_lines counts boards ++ board_line (suc boards) (counts (suc boards))
 
--- The lines of a report on so many boards.
-abbrev pub traffic_text : Traffic → ℕ → List ℕ
-traffic_text report boards = board_lines report boards ++ memory_line report.memory
+-- The lines of a journal, with this many boards.
+abbrev pub traffic_text : List Event → ℕ → List ℕ
+traffic_text journal boards =
+    board_lines (counts_of journal) boards ++ memory_line (memory_counts journal)

@@ -1,13 +1,16 @@
 //! The lines of what a run moved.
 
-ghost use Rattle.std.specs.Prelude.{◌≡◌, ◌≤◌, ◌+◌, ◌*◌, ◌++◌, ◌∷◌, [], length, codes, decimal};
+ghost use Rattle.std.specs.Prelude.{◌≡◌, ◌≤◌, ◌<◌, ◌^◌, ◌+◌, ◌*◌, ◌++◌, ◌∷◌, [], length, codes, decimal};
 ghost use Rattle.fb_text.specs.Written.{KeepsRoom, Appends};
-ghost use Rattle.table_library.specs.Lines.{board_line, memory_line, board_lines, traffic_text};
+ghost use Rattle.table_library.specs.Lines.{board_line, board_lines, traffic_text};
+ghost use Rattle.table_library.specs.Traffic.{counts_at};
 
+use crate::counting::traffic;
 use crate::counts::Counts;
 use crate::report::Traffic;
 use bus_signals::BoardNo;
 use fb_text::Text;
+use journal::Event;
 
 /// Appends a word and a number after others on a line.
 fn field(text: &mut Text, word: &str, value: u64)
@@ -50,7 +53,8 @@ fn board_line(text: &mut Text, board: BoardNo, counts: Counts)
 fn board_lines(text: &mut Text, report: &Traffic, boards: u8)
     requires most { boards ≤ 16 }
     requires room { 200 * boards ≤ text.old.spare }
-    ensures appends { Appends text.old text.new (board_lines report.now boards) (200 * boards) }
+    ensures appends { Appends text.old text.new (board_lines (counts_at report.now) boards)
+        (200 * boards) }
 {
     for place in 0..boards {
         let board = BoardNo(place + 1);
@@ -59,13 +63,15 @@ fn board_lines(text: &mut Text, report: &Traffic, boards: u8)
 }
 
 /// Appends the lines of what a run of this many boards moved.
-pub fn write_traffic(report: &Traffic, boards: u8, text: &mut Text)
+pub fn write_traffic(journal: &[Event], boards: u8, text: &mut Text)
+    requires events { length journal.now < 2 ^ 32 }
     requires most { boards ≤ 16 }
     requires room { 4096 ≤ text.old.spare }
-    ensures lines { text.new.bytes ≡ text.old.bytes ++ traffic_text report.now boards }
+    ensures lines { text.new.bytes ≡ text.old.bytes ++ traffic_text journal.now boards }
     ensures kept { KeepsRoom text.old text.new }
 {
-    board_lines(text, report, boards);
+    let report = traffic(journal);
+    board_lines(text, &report, boards);
     let (served, took) = report.memory();
     text.push(b"traffic memory");
     supplied_and_taken(text, served, took);

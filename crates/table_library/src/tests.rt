@@ -255,7 +255,8 @@ fn small_journal() -> [Event; 9] {
 
 #[test]
 fn a_small_journal_is_counted(rt: HostRuntime) -> Result<(), Fail> {
-    let report = traffic(&small_journal());
+    let journal = small_journal();
+    let report = traffic(&journal);
     let first = Counts {
         connects: 1,
         words: 4,
@@ -283,7 +284,7 @@ fn a_small_journal_is_counted(rt: HostRuntime) -> Result<(), Fail> {
     assert_eq!(rt; report.memory(), (1, 1));
     let mut text = Text::new(rt.alloc());
     text.reserve(4096)?;
-    write_traffic(&report, 2, &mut text);
+    write_traffic(&journal, 2, &mut text);
     let lines = "traffic 1 connects 1 words 4 local 0 served 1 took 1\n\
                  traffic 2 connects 3 words 5 local 1 served 0 took 0\n\
                  traffic memory served 1 took 1\n";

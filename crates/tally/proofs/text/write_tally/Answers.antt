@@ -14,11 +14,11 @@ returns-clause-tally c =
     (tally_line (codes "seed") c.args.n) (tally_line (codes "accesses") 100000)
     (tally_line (codes "events") (length journal)) (flat_map (event_line journal) bus_events)
     (tally_line (codes "sum") (replies_sum (entries journal)))
-    c.line.ensures.bytes
-    c.line-2.ensures.bytes
-    c.line-3.ensures.bytes
-    (c.event_lines.ensures.bytes
+    c.line.ensures.appends.bytes
+    c.line-2.ensures.appends.bytes
+    c.line-3.ensures.appends.bytes
+    (c.event_lines.ensures.appends.bytes
     ∙ ap (λ (t : List ℕ). c.line-3.new.text.bytes ++ t)
     (lines_by_counts journal c.connect_counts.result c.connect_counts.ensures))
-    (c.line-4.ensures.bytes
+    (c.line-4.ensures.appends.bytes
     ∙ ap (λ (x : ℕ). c.event_lines.new.text.bytes ++ tally_line (codes "sum") x) c.replies_sum.ensures)

@@ -2,6 +2,7 @@ use Rattle.std.proofs.Common.{◌≡◌, ◌∙◌, ap, sym, subst}
 use Rattle.std.specs.Prelude.{vec_capacity}
 use Rattle.bus_model.specs.Configuration.{Phase, is_connected}
 use Rattle.bus_model.specs.Turns.{own_transaction}
+use Rattle.bus_model.proofs.TurnInParts.{in_parts}
 use Rattle.bus_model.specs.TurnParts.{turn_for, access_turn}
 use Rattle.backplane.specs.Machine.{Machine, IsBoard, configuration, configuration_after}
 use Rattle.backplane.specs.Plans.{planned}
@@ -25,6 +26,7 @@ pub returns-in-None : goal.returns-in-None
 returns-in-None c =
     let now = c.args.self.now in
     ap (turn_for now.setup (configuration now) c.args.board) (sym c.in-None.is ∙ c.present.ensures)
+    ∙ sym (in_parts now.setup (configuration now) c.args.board)
 
 pub returns-in-Some : goal.returns-in-Some
 returns-in-Some c =
@@ -38,3 +40,4 @@ returns-in-Some c =
     ≡ access_turn x.setup (configuration x) c.args.board c.in-Some.access
     (own_transaction (configuration x).phase c.args.board)) c.self.view_is told
     ∙ ap (turn_for now.setup (configuration now) c.args.board) (sym c.in-Some.is ∙ c.present.ensures)
+    ∙ sym (in_parts now.setup (configuration now) c.args.board)
