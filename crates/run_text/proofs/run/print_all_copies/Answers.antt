@@ -1,3 +1,4 @@
+use Rattle.std.proofs.lemmas.Result.{err_from_is_err_and}
 use Rattle.std.proofs.Common.{suc, drop, arith}
 use Rattle.std.specs.List.{flat_map}
 use Rattle.bus_model.specs.Setup.{board_places, line_count}
@@ -7,18 +8,22 @@ use Rattle.run_text.proofs.Behind.{failed-behind, whole-behind, done-behind}
 use Rattle.run_text.proofs.Numbers.{places-at, places-more, places-all}
 use Rattle.run_text.proofs.run.print_all_copies.Goals as goal
 
-pub returns-in-Err-clause-paged : goal.returns-in-Err-clause-paged
-returns-in-Err-clause-paged g c =
+pub returns-in_err-print_copies : goal.returns-in_err-print_copies
+returns-in_err-print_copies g c =
+    let p = err_from_is_err_and c.from_residual.result c.from_residual.ensures.1 in
     let machine = c.args.machine.now in
     let at = c.loop-place.place in
     let boards = c.boards-place-end.ensures.boards in
     let test = c.loop-place-test.true in
-    failed-behind (flat_map (board_copies (configuration c.args.machine.now) (line_count c.args.machine.now.setup))
-    (drop (suc at) (board_places machine.setup)))
-    (flat_map (board_copies (configuration c.args.machine.now) (line_count c.args.machine.now.setup))
-    (board_places machine.setup)) c.in-Err.failed
-    (places-at (board_copies (configuration c.args.machine.now) (line_count c.args.machine.now.setup))
-    machine.setup.boards at (omega (arith, boards, test))) c.loop-place.invariant.paged c.in-Err.ensures.paged
+    record {
+      paged = rw (p.1, p.2) (
+          failed-behind (flat_map (board_copies (configuration c.args.machine.now) (line_count c.args.machine.now.setup))
+          (drop (suc at) (board_places machine.setup)))
+          (flat_map (board_copies (configuration c.args.machine.now) (line_count c.args.machine.now.setup))
+          (board_places machine.setup)) c.in_err-print_copies.field-0.0
+          (places-at (board_copies (configuration c.args.machine.now) (line_count c.args.machine.now.setup))
+          machine.setup.boards at (omega (arith, boards, test))) c.loop-place.invariant.paged c.in_err-print_copies.ensures.paged);
+    }
 
 pub loop-place-preserved : goal.loop-place-preserved
 loop-place-preserved g c =
@@ -27,16 +32,19 @@ loop-place-preserved g c =
     let test = c.loop-place-test.true in
     record {
       paged =
-          whole-behind c.in_default.field-0
+          whole-behind c.in_ok-print_copies.field-0
           (places-more (board_copies (configuration c.args.machine.now) (line_count c.args.machine.now.setup))
           machine.setup.boards c.loop-place.place (omega (arith, boards, test))) c.loop-place.invariant.paged
-          c.in_default.ensures.paged;
+          c.in_ok-print_copies.ensures.paged;
     }
 
-pub returns-clause-paged : goal.returns-clause-paged
-returns-clause-paged g c =
+pub returns : goal.returns
+returns g c =
     let machine = c.args.machine.now in
     let boards = c.boards-place-end.ensures.boards in
     let test = c.loop-place-test.false in
-    done-behind (places-all (board_copies (configuration c.args.machine.now) (line_count c.args.machine.now.setup))
-    machine.setup.boards c.loop-place.place (omega (arith, boards, test))) c.loop-place.invariant.paged
+    record {
+      paged =
+          done-behind (places-all (board_copies (configuration c.args.machine.now) (line_count c.args.machine.now.setup))
+          machine.setup.boards c.loop-place.place (omega (arith, boards, test))) c.loop-place.invariant.paged;
+    }
