@@ -1,4 +1,4 @@
-//! The commands of the program, and what each takes.
+//! The commands of the program: their names, and the words after them.
 
 /// A command of the program.
 #[derive(Clone, Copy)]
@@ -15,21 +15,7 @@ pub enum Command {
     Version,
 }
 
-/// All commands, in the order in which they are listed.
-pub const COMMANDS: [Command; 10] = [
-    Command::Check,
-    Command::Show,
-    Command::Run,
-    Command::Race,
-    Command::Replay,
-    Command::Make,
-    Command::Tally,
-    Command::Explain,
-    Command::Help,
-    Command::Version,
-];
-
-/// The names of the commands, in the same order.
+/// The names of the commands, in the order in which they are listed.
 pub const NAMES: [&str; 10] = [
     "check", "show", "run", "race", "replay", "make", "tally", "explain", "help", "version",
 ];
@@ -37,43 +23,34 @@ pub const NAMES: [&str; 10] = [
 impl Command {
     /// The command of this name.
     pub fn named(word: &str) -> Option<Command> {
-        let word = match word {
-            "-h" | "--help" => "help",
-            "--version" => "version",
-            other => other,
-        };
-        COMMANDS
-            .iter()
-            .find(|command| command.name() == word)
-            .copied()
-    }
-
-    pub fn name(self) -> &'static str {
-        match self {
-            Command::Check => "check",
-            Command::Show => "show",
-            Command::Run => "run",
-            Command::Race => "race",
-            Command::Replay => "replay",
-            Command::Make => "make",
-            Command::Tally => "tally",
-            Command::Explain => "explain",
-            Command::Help => "help",
-            Command::Version => "version",
+        match word {
+            "check" => Some(Command::Check),
+            "show" => Some(Command::Show),
+            "run" => Some(Command::Run),
+            "race" => Some(Command::Race),
+            "replay" => Some(Command::Replay),
+            "make" => Some(Command::Make),
+            "tally" => Some(Command::Tally),
+            "explain" => Some(Command::Explain),
+            "help" | "-h" | "--help" => Some(Command::Help),
+            "version" | "--version" => Some(Command::Version),
+            _ => None,
         }
     }
 
-    /// The words after the command's name.
-    pub fn takes(self) -> &'static str {
+    /// The words that ask for the command.
+    pub fn form(self) -> &'static str {
         match self {
-            Command::Check => "FILE",
-            Command::Show | Command::Race => "SETUP",
-            Command::Run => "SETUP SCHEDULE, or SETUP seed NUMBER",
-            Command::Replay => "SETUP TRACE",
-            Command::Make | Command::Tally => "NUMBER",
-            Command::Explain => "WORDS, those of another command",
-            Command::Help => "[COMMAND]",
-            Command::Version => "",
+            Command::Check => "check FILE",
+            Command::Show => "show SETUP",
+            Command::Run => "run SETUP SCHEDULE, or SETUP seed NUMBER",
+            Command::Race => "race SETUP",
+            Command::Replay => "replay SETUP TRACE",
+            Command::Make => "make NUMBER",
+            Command::Tally => "tally NUMBER",
+            Command::Explain => "explain WORDS, those of another command",
+            Command::Help => "help [COMMAND]",
+            Command::Version => "version",
         }
     }
 
@@ -88,54 +65,6 @@ impl Command {
             Command::Explain => (1, 4),
             Command::Help => (0, 1),
             Command::Version => (0, 0),
-        }
-    }
-
-    /// What the command does.
-    pub fn does(self) -> &'static str {
-        match self {
-            Command::Check => "judges each table of a text of tables or of a setup",
-            Command::Show => "prints the written spelling of a setup",
-            Command::Run => "runs a setup by a schedule, or by turns drawn from a seed",
-            Command::Race => "runs a setup with a thread for each board",
-            Command::Replay => "prints the ending of a trace of a complete run",
-            Command::Make => "prints the generated setup of a number",
-            Command::Tally => "counts the transactions of a generated run",
-            Command::Explain => "says why a command refuses its files or words",
-            Command::Help => "lists the commands, or says what one takes",
-            Command::Version => "prints the version and the kit that it is proved with",
-        }
-    }
-
-    /// Words that can be typed.
-    pub fn example(self) -> &'static str {
-        match self {
-            Command::Check => "check examples/whole-class.table",
-            Command::Show => "show examples/tour.setup",
-            Command::Run => "run examples/tour.setup seed 1",
-            Command::Race => "race examples/tour.setup",
-            Command::Replay => "replay examples/tour.setup trace",
-            Command::Make => "make 1",
-            Command::Tally => "tally 1",
-            Command::Explain => "explain check examples/silent-sharer.table",
-            Command::Help => "help run",
-            Command::Version => "version",
-        }
-    }
-
-    /// The statuses with which it may end.
-    pub fn statuses(self) -> &'static str {
-        match self {
-            Command::Check | Command::Run | Command::Race | Command::Replay => {
-                "0 done, 1 refused, 3 not in the grammar, 4 file not read, 5 not written, 6 no memory, 7 file too long"
-            }
-            Command::Show => {
-                "0 done, 3 not in the grammar, 4 file not read, 5 not written, 6 no memory, 7 file too long"
-            }
-            Command::Explain => "those of the other command",
-            Command::Make | Command::Tally | Command::Help | Command::Version => {
-                "0 done, 5 not written, 6 no memory"
-            }
         }
     }
 }

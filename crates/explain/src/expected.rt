@@ -59,7 +59,7 @@ impl<'a> At<'a> {
     }
 
     /// Appends the line with carets under the first word that is wrong, and the right line.
-    fn show_right(self, text: &mut Text, right: &[u8]) -> Result<(), NoMemory> {
+    pub fn show_right(self, text: &mut Text, right: &[u8]) -> Result<(), NoMemory> {
         match first_other(self.line, right) {
             Some(word) => {
                 show_line(text, self.number, self.line, word.before, word.bytes.len())?
@@ -193,6 +193,39 @@ fn right_drop(alloc: Global, seen: &mut Seen, board: BoardNo) -> Result<Option<T
         }
     }
     Ok(None)
+}
+
+/// The line of a transaction by which a board gives a copy up, where no other board has one.
+fn flush_line(alloc: Global, board: BoardNo, line: u32) -> Result<Text, NoMemory> {
+    let mut text = Text::new(alloc);
+    counted(&mut text, "connect ", u64::from(board.0), " flu line ")?;
+    counted(&mut text, "", u64::from(line), " to I answers none")?;
+    Ok(text)
+}
+
+/// The flush that the machine takes of a board.
+fn right_flush(alloc: Global, seen: &mut Seen, board: BoardNo) -> Result<Option<Text>, NoMemory> {
+    let lines = seen.machine.lines();
+    for line in 0..lines {
+        let right = flush_line(alloc, board, line)?;
+        if takes(&mut seen.machine, right.bytes()) {
+            return Ok(Some(right));
+        }
+    }
+    Ok(None)
+}
+
+/// The drop or the flush that the machine takes of a board, so that there is room for a line.
+pub fn right_parting(
+    alloc: Global,
+    seen: &mut Seen,
+    board: BoardNo,
+) -> Result<Option<Text>, NoMemory> {
+    let dropped = right_drop(alloc, seen, board)?;
+    if dropped.is_some() {
+        return Ok(dropped);
+    }
+    right_flush(alloc, seen, board)
 }
 
 /// Appends the line of the copy that a board gives up, or that it gives up none.

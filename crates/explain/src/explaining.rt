@@ -6,15 +6,15 @@
 ghost use Rattle.std.specs.Prelude.{◌≡◌, OnErr};
 ghost use Rattle.explain.specs.Extends.{Extends};
 
+use crate::asked::words_reason;
 use crate::files::{length_reason, unread_reason};
-use crate::help::words_reason;
 use crate::texts::{schedule_reason, setup_reason, tables_reason};
 use crate::trace::trace_reason;
 use fb_text::Text;
 use no_memory::NoMemory;
 use std::alloc::Global;
 
-/// Appends an explanation, where it was made.
+/// Extends an explanation, where it was made.
 fn append(text: &mut Text, reason: Result<Text, NoMemory>) -> Result<(), NoMemory>
     ensures appends { Extends text.old.bytes text.new.bytes }
     ensures none { OnErr result (text.new.bytes ≡ text.old.bytes) }
@@ -25,7 +25,7 @@ fn append(text: &mut Text, reason: Result<Text, NoMemory>) -> Result<(), NoMemor
     Ok(())
 }
 
-/// Appends why a setup is refused: the first fault of its text, or the faults of its tables.
+/// Extends why a setup is refused: the first fault of its text, or the faults of its tables.
 pub fn explain_setup(alloc: Global, bytes: &[u8], text: &mut Text) -> Result<(), NoMemory>
     ensures appends { Extends text.old.bytes text.new.bytes }
     ensures none { OnErr result (text.new.bytes ≡ text.old.bytes) }
@@ -33,7 +33,7 @@ pub fn explain_setup(alloc: Global, bytes: &[u8], text: &mut Text) -> Result<(),
     append(text, setup_reason(alloc, bytes))
 }
 
-/// Appends why a text of tables is refused: its first fault, or the faults of its tables.
+/// Extends why a text of tables is refused: its first fault, or the faults of its tables.
 pub fn explain_tables(alloc: Global, bytes: &[u8], text: &mut Text) -> Result<(), NoMemory>
     ensures appends { Extends text.old.bytes text.new.bytes }
     ensures none { OnErr result (text.new.bytes ≡ text.old.bytes) }
@@ -41,7 +41,7 @@ pub fn explain_tables(alloc: Global, bytes: &[u8], text: &mut Text) -> Result<()
     append(text, tables_reason(alloc, bytes))
 }
 
-/// Appends why a text is no schedule of so many boards.
+/// Extends why a text is no schedule of so many boards.
 pub fn explain_schedule(
     alloc: Global,
     bytes: &[u8],
@@ -54,7 +54,7 @@ pub fn explain_schedule(
     append(text, schedule_reason(alloc, bytes, boards))
 }
 
-/// Appends why a trace is not that of a complete run of the setup of a text.
+/// Extends why a trace is not that of a complete run of the setup of a text.
 pub fn explain_trace(
     alloc: Global,
     bytes: &[u8],
@@ -67,7 +67,7 @@ pub fn explain_trace(
     append(text, trace_reason(alloc, bytes, trace))
 }
 
-/// Appends why words ask for no command.
+/// Extends why words ask for no command.
 pub fn explain_words(alloc: Global, words: &[String], text: &mut Text) -> Result<(), NoMemory>
     ensures appends { Extends text.old.bytes text.new.bytes }
     ensures none { OnErr result (text.new.bytes ≡ text.old.bytes) }
@@ -75,7 +75,7 @@ pub fn explain_words(alloc: Global, words: &[String], text: &mut Text) -> Result
     append(text, words_reason(alloc, words))
 }
 
-/// Appends that the file of this name was not read. The role says what it is, as `the schedule`.
+/// Extends that the file of this name was not read. The role says what it is, as `the schedule`.
 pub fn explain_unread(
     alloc: Global,
     name: &str,
@@ -88,7 +88,7 @@ pub fn explain_unread(
     append(text, unread_reason(alloc, name, role))
 }
 
-/// Appends that the file of this name is too long: its length, where it is known, and the limit.
+/// Extends that the file of this name is too long: its length, where it is known, and the limit.
 pub fn explain_length(
     alloc: Global,
     name: &str,

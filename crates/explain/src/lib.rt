@@ -1,15 +1,16 @@
 //! Why a command is refused: the line and the word at fault, and what may stand there.
 #![tactic(auto)]
 
+mod asked;
 mod commands;
 mod expected;
 mod explaining;
 mod fault;
 mod files;
-mod help;
 mod line;
 mod nearest;
 mod numbers;
+mod permitted;
 mod reader;
 mod refusals;
 mod replayed;
@@ -25,12 +26,10 @@ mod trace;
 mod verdict;
 mod wanted;
 
-pub use commands::Command;
 pub use explaining::{
     explain_length, explain_schedule, explain_setup, explain_tables, explain_trace, explain_unread,
     explain_words,
 };
-pub use help::{help_of, help_text};
 pub use no_memory::NoMemory;
 
 #[cfg(test)]

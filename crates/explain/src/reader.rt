@@ -38,7 +38,8 @@ fn split_line(bytes: &[u8]) -> (&[u8], &[u8]) {
     }
 }
 
-fn without_first(bytes: &[u8]) -> &[u8] {
+/// What stands after the first byte, where there is one.
+pub fn without_first(bytes: &[u8]) -> &[u8] {
     match bytes {
         [_, rest @ ..] => rest,
         [] => bytes,

@@ -1,6 +1,6 @@
 //! Why a board cannot raise a request, and why a transaction cannot connect.
 
-use crate::expected::{At, say_phase};
+use crate::expected::{At, right_parting, say_phase};
 use crate::say::{counted, say, say_access};
 use crate::seen::{Phase, Seen};
 use bus_signals::{Access, BoardNo, BusEvent};
@@ -10,6 +10,7 @@ use fb_text::Text;
 use journal::Connected;
 use moesi_state::{Outcome, State};
 use no_memory::NoMemory;
+use std::alloc::Global;
 use table_text::{write_answer, write_local_action};
 
 /// Appends a board's name at the beginning of a sentence.
@@ -19,28 +20,24 @@ fn say_board(text: &mut Text, board: BoardNo, after: &str) -> Result<(), NoMemor
 
 /// Appends the alternatives of a cell for an access.
 fn say_cell(text: &mut Text, actions: &[LocalAction]) -> Result<(), NoMemory> {
-    let mut first = true;
+    let mut between = "";
     for action in actions {
-        if !first {
-            say(text, " |")?;
-        }
+        say(text, between)?;
         text.reserve(11)?;
         write_local_action(*action, text);
-        first = false;
+        between = " |";
     }
     say(text, "\n")
 }
 
 /// Appends the alternatives of a cell for a bus event.
 fn say_answers(text: &mut Text, actions: &[SnoopAction]) -> Result<(), NoMemory> {
-    let mut first = true;
+    let mut between = "";
     for action in actions {
-        if !first {
-            say(text, " |")?;
-        }
+        say(text, between)?;
         text.reserve(11)?;
         write_answer(*action, text);
-        first = false;
+        between = " |";
     }
     say(text, "\n")
 }
@@ -85,9 +82,8 @@ pub fn say_raise(
     access: &Access,
 ) -> Result<(), NoMemory> {
     at.show_word(text, 1)?;
-    let phase = seen.phase();
-    if phase.is_of(board) {
-        return say_phase(text, phase);
+    if seen.has_bus(board) {
+        return say_phase(text, seen.phase());
     }
     say_no_request(text, seen, board, access)
 }
@@ -188,10 +184,30 @@ fn say_wrong(
     say_answers(text, cell)
 }
 
+/// Appends that a master has no room for a line, or the line of the copy that has to go first.
+fn say_full(
+    alloc: Global,
+    text: &mut Text,
+    seen: &mut Seen,
+    at: At,
+    master: BoardNo,
+) -> Result<(), NoMemory> {
+    if let Some(line) = right_parting(alloc, seen, master)? {
+        return at.show_right(text, line.bytes());
+    }
+    at.show_word(text, 4)?;
+    say_board(
+        text,
+        master,
+        " has no room for this line: another copy of its set has to go first.\n",
+    )
+}
+
 /// Appends why a transaction whose event is right cannot connect.
 fn say_unfit(
+    alloc: Global,
     text: &mut Text,
-    seen: &Seen,
+    seen: &mut Seen,
     at: At,
     transaction: &Connected,
     is_flush: bool,
@@ -200,18 +216,14 @@ fn say_unfit(
         at.show_word(text, place_of(transaction, board).saturating_add(8))?;
         return say_wrong(text, seen, transaction, board);
     }
-    at.show_word(text, 4)?;
-    if is_flush {
-        return say_board(
-            text,
-            transaction.master,
-            " does not have to give this line up now.\n",
-        );
+    if !is_flush {
+        return say_full(alloc, text, seen, at, transaction.master);
     }
+    at.show_word(text, 4)?;
     say_board(
         text,
         transaction.master,
-        " has no room for this line: another copy of its set has to go first.\n",
+        " does not have to give this line up now.\n",
     )
 }
 
@@ -237,8 +249,9 @@ fn say_choice_at(
 
 /// Appends why a transaction that flushes no victim cannot connect.
 fn say_no_choice(
+    alloc: Global,
     text: &mut Text,
-    seen: &Seen,
+    seen: &mut Seen,
     at: At,
     transaction: &Connected,
     access: &Access,
@@ -251,13 +264,14 @@ fn say_no_choice(
     if !has_alternative(cell, transaction.event, transaction.outcome) {
         return say_choice_at(text, seen, at, 2, master, access);
     }
-    say_unfit(text, seen, at, transaction, false)
+    say_unfit(alloc, text, seen, at, transaction, false)
 }
 
 /// Appends why a transaction cannot connect.
 pub fn say_connect(
+    alloc: Global,
     text: &mut Text,
-    seen: &Seen,
+    seen: &mut Seen,
     at: At,
     transaction: &Connected,
     access: &Access,
@@ -267,7 +281,7 @@ pub fn say_connect(
         return say_ungranted(text, at, transaction.master, phase);
     }
     if flushes(seen, transaction, access) {
-        return say_unfit(text, seen, at, transaction, true);
+        return say_unfit(alloc, text, seen, at, transaction, true);
     }
-    say_no_choice(text, seen, at, transaction, access)
+    say_no_choice(alloc, text, seen, at, transaction, access)
 }

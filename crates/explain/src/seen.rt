@@ -141,6 +141,11 @@ impl Seen {
         phase_after(self.machine.journal())
     }
 
+    /// Whether a board has the bus.
+    pub fn has_bus(&self, board: BoardNo) -> bool {
+        self.phase().is_of(board)
+    }
+
     /// Whether a board has its request raised.
     pub fn is_raised(&self, board: BoardNo) -> bool {
         let mut raised = false;

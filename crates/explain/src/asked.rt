@@ -1,55 +1,12 @@
-//! What is said of the commands and of words that ask for none.
+//! What is said of words that ask for no command.
 
-use crate::commands::{COMMANDS, Command, NAMES};
+use crate::commands::{Command, NAMES};
 use crate::nearest::say_guess;
 use crate::numbers::say_number;
 use crate::say::{choices, say};
 use fb_text::Text;
 use no_memory::NoMemory;
 use std::alloc::Global;
-
-/// Appends a command and what it takes.
-fn say_form(text: &mut Text, command: Command) -> Result<(), NoMemory> {
-    say(text, command.name())?;
-    if !command.takes().is_empty() {
-        say(text, " ")?;
-    }
-    say(text, command.takes())
-}
-
-/// A line for each command, the statuses, and where the documents are.
-pub fn help_text(alloc: Global) -> Result<Text, NoMemory> {
-    let mut text = Text::new(alloc);
-    for command in COMMANDS {
-        say_form(&mut text, command)?;
-        say(&mut text, ": ")?;
-        say(&mut text, command.does())?;
-        say(&mut text, "\n")?;
-    }
-    say(
-        &mut text,
-        "status: 0 done, 1 refused, 2 words, 3 grammar, 4 file not read, 5 not written, 6 no memory, 7 file too long\n",
-    )?;
-    say(
-        &mut text,
-        "documents: README.md, docs/TEXTS.md, docs/MODEL.md\n",
-    )?;
-    Ok(text)
-}
-
-/// What a command takes, an example, and its statuses.
-pub fn help_of(alloc: Global, command: Command) -> Result<Text, NoMemory> {
-    let mut text = Text::new(alloc);
-    say_form(&mut text, command)?;
-    say(&mut text, ": ")?;
-    say(&mut text, command.does())?;
-    say(&mut text, "\nexample: ")?;
-    say(&mut text, command.example())?;
-    say(&mut text, "\nstatus: ")?;
-    say(&mut text, command.statuses())?;
-    say(&mut text, "\n")?;
-    Ok(text)
-}
 
 /// Appends that there is no command of this name, and those that there are.
 fn say_no_command(text: &mut Text, word: &str) -> Result<(), NoMemory> {
@@ -60,10 +17,12 @@ fn say_no_command(text: &mut Text, word: &str) -> Result<(), NoMemory> {
     say_guess(text, word.as_bytes(), &NAMES)
 }
 
-/// Appends what is wrong with the words of a command that are as many as it takes.
+/// Appends what is wrong with the words of a command that are as many as it takes, where it is one
+/// of them.
 fn say_last(text: &mut Text, command: Command, words: &[String]) -> Result<(), NoMemory> {
     match (command, words) {
         (Command::Make | Command::Tally, [number]) => say_number(text, number.as_str().as_bytes()),
+        (Command::Help, [name]) => say_no_command(text, name.as_str()),
         (Command::Run, [_, seed, number]) => {
             if seed.as_str() == "seed" {
                 return say_number(text, number.as_str().as_bytes());
@@ -94,7 +53,7 @@ fn say_wrong_word(text: &mut Text, command: Command, words: &[String]) -> Result
 fn say_command(text: &mut Text, command: Command, words: &[String]) -> Result<(), NoMemory> {
     say_wrong_word(text, command, words)?;
     say(text, "Expected: ")?;
-    say_form(text, command)?;
+    say(text, command.form())?;
     say(text, ".\n")
 }
 
