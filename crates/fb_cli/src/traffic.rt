@@ -30,7 +30,7 @@ const ROOM: usize = 4096;
 
 /// What a run moved, written where there is room for it.
 fn moved(machine: &Machine, text: Text) -> Answer
-    requires { 4096 ≤ text.spare }
+    requires room { 4096 ≤ text.spare }
     requires empty { text.bytes ≡ [] }
     ensures { answer_output result
         ≡ record { status = 0; text = traffic_text machine.now.journal (length machine.now.setup.boards) } }

@@ -22,11 +22,3 @@ fn tables_are_narrowed(rt: HostRuntime) -> Result<(), Fail> {
     }
     Ok(())
 }
-
-#[test]
-fn a_file_that_is_not_there_is_refused(rt: HostRuntime) -> Result<(), Fail> {
-    let (printed, ended) = said(&rt, rt.alloc(), "narrow F", &[])?;
-    assert_eq!(rt; printed.as_slice(), b"fault read setup\n".as_slice());
-    assert_eq!(rt; ended, 4);
-    Ok(())
-}
