@@ -5,9 +5,10 @@ of a trace: `read` asks it first, and refuses a trace whose ending is not the on
 that is computed here. What is kept does not grow with the trace: replies are hashed, board by board."""
 
 import argparse
-import functools
+import gc
 import hashlib
 import itertools
+import operator
 import os
 import pathlib
 import re
@@ -133,25 +134,29 @@ FIELDS = {
 
 
 class Event:
-    """An event of a trace. Nothing changes it once it is read, since a line that comes again gives the same one.
-
-    It has the fields of its kind, and `line` and `access`, which may be none; where there is an access, `done` is what
-    the trace says of it. A data line seldom comes again, but what it says before its access does: `move` is the event
-    of that part, with all fields but those of the access."""
+    """An event of a trace, or the part of one that stands before its access. It has the fields of its kind, and `line`,
+    which may be none. Nothing changes it once it is read, since a text that comes again gives the same one, but for
+    `shown`: a tool may put there what it makes of it."""
 
     __slots__ = (
-        "kind", "board", "line", "before", "after", "access", "address", "value", "winner", "lines", "rounds", "event",
-        "result", "answers", "source", "takers", "states", "done", "move",
+        "kind", "board", "line", "before", "after", "winner", "lines", "rounds", "event", "result", "answers", "source",
+        "takers", "states", "shown",
     )
 
-    def __init__(self, kind, board, line=None):
-        self.kind, self.board, self.line, self.access = kind, board, line, None
+    def __init__(self, kind, board):
+        self.kind, self.board, self.line, self.shown = kind, board, None, None
 
-    def put_access(self, done):
-        words = done.split(" ")
-        self.done, self.access = done, words[0]
-        self.address = int(words[1]) if len(words) > 1 else None
-        self.value = int(words[-1]) if len(words) > 2 else None
+
+class Done:
+    """An event that tells an access: a local or a data line. Such a line seldom comes again, but the part before its
+    access does, which is `move`. `done` is what the trace says of the access."""
+
+    __slots__ = ("kind", "board", "line", "move", "done", "access", "address", "value")
+
+    before, after, event, source, takers, states = (
+        property(operator.attrgetter(f"move.{field}"))
+        for field in ("before", "after", "event", "source", "takers", "states")
+    )
 
 
 def by_place(words):
@@ -159,18 +164,15 @@ def by_place(words):
     return {int(place): text for place, _, text in (word.partition("=") for word in words)}
 
 
-@functools.lru_cache(KEPT)
-def read_short(line):
-    """The event of a line that is no data line, or none for one that is of no event."""
-    words = line.split()
+def read_part(text):
+    """The event of a line that tells no access, or of what stands before the access, or none where there is none."""
+    words = text.split()
     kind = words[0] if words else ""
     if kind not in FIELDS:
         return None
     event = Event(kind, int(words[1]))
     if kind == "local":
         event.before, event.after = words[2], words[4]
-        event.put_access(" ".join(words[6:]))
-        event.line = event.address >> 2
     elif kind == "drop":
         event.line, event.before = int(words[3]), words[5]
     elif kind == "grant":
@@ -178,29 +180,46 @@ def read_short(line):
     elif kind == "connect":
         event.event, event.line, event.result = words[2], int(words[4]), words[6]
         event.answers = by_place(words[8:] if words[8] != "none" else [])
+    elif kind == "data":
+        event.event, event.line, event.source = words[2], int(words[4]), words[6]
+        event.takers = () if words[8] == "none" else tuple(words[8].split(","))
+        event.states = by_place(words[10:])
     return event
 
 
-@functools.lru_cache(KEPT)
-def read_move(text):
-    """The event of a data line without its access, read from what stands before `done`."""
-    words = text.split(" ")
-    event = Event("data", int(words[1]), int(words[4]))
-    event.event, event.source = words[2], words[6]
-    event.takers = () if words[8] == "none" else tuple(words[8].split(","))
-    event.states = by_place(words[10:])
-    return event
+class Reader:
+    """Reads lines of a trace. It keeps the events of lines without an access, and of parts before one, by their text.
+    When there are too many, those are forgotten that were not asked for since there were too many the last time."""
 
+    def __init__(self):
+        self.kept, self.older = {}, {}
 
-def read_data(line):
-    """The event of a data line."""
-    text, _, done = line.partition(" done ")
-    move = read_move(text)
-    event = Event("data", move.board, move.line)
-    event.move, event.event, event.source = move, move.event, move.source
-    event.takers, event.states = move.takers, move.states
-    event.put_access(done.rstrip("\n"))
-    return event
+    def events(self, lines):
+        """The events of lines, or none for each that is of no event."""
+        kept, read = self.kept.get, self.read
+        return [kept(line) or read(line) for line in lines]
+
+    def read(self, line):
+        text, _, done = line.partition(" done ")
+        move = self.kept.get(text) or self.keep(text)
+        if not done or not move:
+            return move
+        event, words = Done(), done.split(" ")
+        event.kind, event.board, event.line, event.move, event.done = move.kind, move.board, move.line, move, done
+        event.access, count = words[0], len(words)
+        event.address = int(words[1]) if count > 1 else None
+        event.value = int(words[-1]) if count > 2 else None
+        if event.line is None:
+            event.line = event.address >> 2
+        return event
+
+    def keep(self, text):
+        event = self.older.get(text) or read_part(text)
+        if event:
+            if len(self.kept) >= KEPT:
+                self.kept, self.older = {}, self.kept
+            self.kept[text] = event
+        return event
 
 
 NO_COPY = ("I", (0, 0, 0, 0))
@@ -214,40 +233,33 @@ def written(words, event):
 
 
 class Machine:
-    """The configuration between two events. A list of the words of a line is never changed: a write puts another in its
-    place. So a copy and memory may have the same list, and a tool may keep it."""
+    """The words and the states between two events. A list of the words of a line is never changed: a write puts another
+    in its place. So a copy and memory may have the same list, and a tool may keep it."""
 
     def __init__(self, setup):
         self.setup = setup
         self.memory = [list(line) for line in setup.memory]
-        self.rows = {}
-        self.raised = set()
-        self.granted = 0
-        self.connected = None
+        # The state and the words of each board's copies, by line.
+        self.copies = {board.place: {} for board in setup.boards}
         self.place = {board.place: 0 for board in setup.boards}
         self.answers = {board.place: hashlib.blake2b() for board in setup.boards}
-        self.steps = {kind: getattr(self, f"do_{kind}") for kind in FIELDS}
+        # The kinds of events that change any of these.
+        self.steps = {"local": self.do_local, "drop": self.do_drop, "data": self.do_data}
 
     def row(self, board, line):
         """The state and the words of a board's copy of a line."""
-        return self.rows.get((board, line), NO_COPY)
+        return self.copies[board].get(line, NO_COPY)
 
     def state(self, board, line):
-        return self.rows.get((board, line), NO_COPY)[0]
+        return self.copies[board].get(line, NO_COPY)[0]
 
     def words(self, board, line):
-        return self.rows.get((board, line), NO_COPY)[1]
+        return self.copies[board].get(line, NO_COPY)[1]
 
     def present(self, board):
         """The next access of a board, or none."""
         script, place = self.setup.boards[board - 1].script, self.place[board]
         return script[place] if place < len(script) else None
-
-    def put(self, board, line, state, words):
-        if state == "I":
-            self.rows.pop((board, line), None)
-        else:
-            self.rows[board, line] = (state, words)
 
     def complete(self, event):
         """Counts an access that a board has done."""
@@ -256,48 +268,39 @@ class Machine:
         if event.access == "read":
             self.answers[board].update(b"answer %d %d %d %d\n" % (board, place, event.address, event.value))
 
-    def apply(self, event):
-        self.steps[event.kind](event)
-
     def do_local(self, event):
-        board, line = event.board, event.line
-        words = self.words(board, line)
-        self.put(board, line, event.after, written(words, event) if event.access == "write" else words)
-        self.raised.discard(board)
-        if self.granted == board:
-            self.granted = 0
+        move, copies, line = event.move, self.copies[event.board], event.line
+        if move.after == "I":
+            copies.pop(line, None)
+        elif event.access == "write":
+            copies[line] = move.after, written(copies.get(line, NO_COPY)[1], event)
+        elif move.after != move.before:
+            copies[line] = move.after, copies.get(line, NO_COPY)[1]
         self.complete(event)
 
     def do_drop(self, event):
-        self.rows.pop((event.board, event.line), None)
+        self.copies[event.board].pop(event.line, None)
 
     def do_data(self, event):
         """The words that a data phase moves, and the states that it leaves."""
-        board, line = event.board, event.line
-        words = self.supplied(event) if event.event in LINE_READS else self.words(board, line)
-        if event.access == "write":
+        move, line, copies, is_write = event.move, event.line, self.copies, event.access == "write"
+        board = event.board
+        words = self.supplied(move) if move.event in LINE_READS else copies[board].get(line, NO_COPY)[1]
+        if is_write:
             words = written(words, event)
-        for taker in event.takers:
+        for taker in move.takers:
             if taker == "memory":
-                self.memory[line] = written(self.memory[line], event) if event.access == "write" else words
+                self.memory[line] = written(self.memory[line], event) if is_write else words
             else:
                 state, row = self.row(int(taker), line)
-                self.rows[int(taker), line] = state, written(row, event)
-        for other, state in event.states.items():
-            self.put(other, line, state, words if other == board else self.words(other, line))
-        self.connected = None
+                copies[int(taker)][line] = state, written(row, event)
+        for other, state in move.states.items():
+            if state == "I":
+                copies[other].pop(line, None)
+            else:
+                copies[other][line] = state, words if other == board else copies[other].get(line, NO_COPY)[1]
         if event.access != "evict":
             self.complete(event)
-
-    def do_raise(self, event):
-        self.raised.add(event.board)
-
-    def do_connect(self, event):
-        self.granted, self.connected = 0, event
-
-    def do_grant(self, event):
-        self.granted = event.winner
-        self.raised.discard(event.winner)
 
     def supplied(self, event):
         """The words that the source of a data phase supplies, or none."""
@@ -309,8 +312,9 @@ class Machine:
         """The lines of memory and copies that stand after `end`, after the answers."""
         for line, words in enumerate(self.memory):
             yield "memory %d %d %d %d %d\n" % (line, *words)
-        for (board, line), (state, words) in sorted(self.rows.items()):
-            yield "copy %d %d %s %d %d %d %d\n" % (board, line, state, *words)
+        for board, copies in sorted(self.copies.items()):
+            for line, (state, words) in sorted(copies.items()):
+                yield "copy %d %d %s %d %d %d %d\n" % (board, line, state, *words)
 
 
 class Judge:
@@ -339,11 +343,12 @@ class Judge:
     def compare(self, printed):
         """Keeps what replay prints. Gives how the ending in the trace differs from it, or none."""
         with open(self.path, "rb") as trace:
-            for line in trace:
-                if line == b"end\n":
+            while lines := trace.readlines(BLOCK):
+                if b"end\n" in lines:
                     break
-            first = next(trace, None)
-            lines, differs = itertools.chain([first], trace), None
+            lines = itertools.chain(lines[lines.index(b"end\n") + 1 :] if lines else [], trace)
+            first = next(lines, None)
+            lines, differs = itertools.chain([first], lines), None
             for number, line in enumerate(printed, 1):
                 self.keep(line)
                 if first is not None and not differs and (other := next(lines, None)) != line:
@@ -355,8 +360,9 @@ class Judge:
 
     def keep(self, line):
         self.first = self.first or line
-        if line.startswith(b"answer "):
-            self.answers[int(line.split(b" ", 2)[1])].update(line)
+        words = line.split(b" ", 2)
+        if words[0] == b"answer":
+            self.answers[int(words[1])].update(line)
         else:
             self.rest.append(line)
 
@@ -380,40 +386,45 @@ class Trace:
 
     def lines(self):
         """The lines of memory that events name, in order."""
-        found, words = set(), set()
+        found = set()
         with open(self.path, "rb") as trace:
-            while text := b"\n" + b"".join(trace.readlines(1 << 20)):
-                if len(text) == 1:
+            for text in whole_lines(trace, 1 << 20):
+                found.update(map(int, set(re.findall(rb" line (\d+)", text))))
+                words = set(re.findall(rb"\nlocal \d+ \w to \w done \w+ (\d+)", b"\n" + text))
+                found.update(int(address) >> 2 for address in words)
+                if len(found) >= len(self.setup.memory):
                     break
-                found.update(re.findall(rb" line (\d+)", text))
-                words.update(re.findall(rb"\nlocal \d+ \w to \w done \w+ (\d+)", text))
-        return sorted({*map(int, found), *(int(address) >> 2 for address in words)})
+        return sorted(found)
 
     def blocks(self):
         """The events in lists, since to read them one at a time costs more. No event stands after the end of them."""
-        with open(self.path, encoding="ascii") as trace:
-            while lines := trace.readlines(BLOCK):
-                events = [read_data(line) if line.startswith("data ") else read_short(line) for line in lines]
+        reader = Reader()
+        with open(self.path, "rb") as trace:
+            for text in whole_lines(trace, BLOCK):
+                events = reader.events(text.decode("ascii").split("\n"))
                 if events[-1] is None:
                     yield events[: events.index(None)]
                     break
                 yield events
 
     def read(self):
+        """The events, which change nothing in `machine`: who asks for them does that, and calls `check` at the end."""
         return itertools.chain.from_iterable(self.blocks())
 
     def __iter__(self):
         steps = self.machine.steps
         for self.number, event in enumerate(self.read(), 1):
             yield event
-            steps[event.kind](event)
+            if event.kind in steps:
+                steps[event.kind](event)
         self.check()
 
     def applied(self):
         """The events, each when `machine` stands after it."""
         steps = self.machine.steps
-        for self.number, event in enumerate(self.read(), 1):
-            steps[event.kind](event)
+        for event in self.read():
+            if event.kind in steps:
+                steps[event.kind](event)
             yield event
         self.check()
 
@@ -421,6 +432,16 @@ class Trace:
         """Asks the judge whether what was computed here is what replay prints."""
         if self.judge:
             self.judge.check(self.machine)
+
+
+def whole_lines(file, size):
+    """The bytes of a file in blocks of about this size that end before a line feed. What follows the last one is left
+    out, since it is no line."""
+    rest = b""
+    while block := file.read(size):
+        text, feed, rest = (rest + block).rpartition(b"\n")
+        if feed:
+            yield text
 
 
 def text_of(line):
@@ -459,6 +480,8 @@ def lines_of(asked, setup, option="--lines"):
 
 def run_main(name, main):
     """Runs a tool: a text that is unfit is one line on standard error and status 2."""
+    # The tools keep nothing in cycles, so there is nothing for the collector to find in the many events of a trace.
+    gc.disable()
     try:
         status = main()
         sys.stdout.flush()

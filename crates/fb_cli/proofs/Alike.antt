@@ -99,5 +99,6 @@ ends_alike setup events holds =
     subst
     (λ (r : Result Machine ReplayFault).
     IfOk r
-    (λ (m : Machine). ending setup events (after_all (opening setup) events) ≡ ending m.setup m.journal (configuration m)))
+    (λ (m : Machine).
+    ending setup events (after_all (opening setup) events) ≡ ending m.setup m.journal (configuration m)))
     (sym (run_replayed setup events holds)) refl

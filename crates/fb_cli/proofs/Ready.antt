@@ -1,5 +1,5 @@
 -- From what the files of a command are, to that nothing stands against it, or to how it stops.
-use Rattle.std.proofs.Common.{◌≡◌, ℕ, ◌≤◌, true, List, ◌∷◌, [], Option, Some, None, Ok, Err, ap, sym, ◌∙◌, subst}
+use Rattle.std.proofs.Common.{◌≡◌, ℕ, ◌≤◌, true, List, ◌∷◌, [], Option, Some, None, Ok, Err, refl, ap, sym, ◌∙◌, subst}
 use Rattle.std.specs.Prelude.{IfSome, IfOk, IfErr, OnOk, Result, length}
 use Rattle.std.specs.List.{list_all}
 use Rattle.fb_text.specs.Unread.{unread}
@@ -9,6 +9,8 @@ use Rattle.setup_text.specs.Reading.{Fault, schedule_at, setup_at}
 use Rattle.bus_model.specs.Setup.{Setup}
 use Rattle.backplane.specs.Machine.{Machine, opened}
 use Rattle.replayer.specs.Replaying.{replayed}
+use Rattle.fb_cli.specs.declared.answers.Answer.TheVariants.{Said}
+use Rattle.fb_cli.specs.declared.answers.Outcome.TheVariants as outcomes
 use Rattle.fb_cli.specs.declared.answers.Refusal.TheVariants.{NoRow, Unread, NoMemory}
 use Rattle.fb_cli.specs.declared.answers.Reply.{Reply}
 use Rattle.fb_cli.specs.declared.answers.Reply.TheVariants.{Answered, Refused, Explained}
@@ -17,14 +19,14 @@ use Rattle.fb_cli.specs.declared.running.Scheduled.{Scheduled}
 use Rattle.fb_cli.specs.Report.{is_accepted, report}
 use Rattle.fb_cli.specs.Output.{Output, Files, if_accepted, limit_of, on_read, with_file, within}
 use Rattle.fb_cli.specs.Command.{AreSetup}
-use Rattle.fb_cli.specs.Replies.{Gives, Ready, Stops}
+use Rattle.fb_cli.specs.Replies.{Comes, Gives, Ready, Stops}
 use Rattle.fb_cli.specs.Check.{check, tables_at}
 use Rattle.fb_cli.specs.Show.{show}
 use Rattle.fb_cli.specs.Run.{AreTurns, run, turns_refusal}
 use Rattle.fb_cli.specs.Race.{race}
 use Rattle.fb_cli.specs.Replay.{on_replayed, replay, replay_refusal, trace_refusal}
 use Rattle.fb_cli.proofs.Alike.{if_accepted_is, is_within, with_accepted_is, with_setup_is}
-use Rattle.fb_cli.proofs.Coming.{on_both, on_some, stops_second}
+use Rattle.fb_cli.proofs.Coming.{answer_comes, on_both, on_some, stops_second}
 
 -- The refusal of the tables that were read.
 abbrev pub tables_refusal : Result (List Table) Fault → Option Output
@@ -66,6 +68,15 @@ check_prints name bytes files (Ok text) is prints =
     is
 check_prints name bytes files (Err reply) is prints = tt
 
+pub check_comes :
+    (name : List ℕ) (files : Option Files) (A : Type 0) (text : Written)
+    → IfSome files (λ file. (check name).refusal file ≡ None)
+    → IfSome files (λ file. (check name).prints file text.bytes)
+    → Comes (check name) files A (Answered (Said outcomes.Done text))
+check_comes name files A text free prints =
+    let command = check name in
+    answer_comes command.opens command.refusal command.prints files A (Said outcomes.Done text) free refl prints
+
 -- A setup of a file, for `show`,
 pub show_free :
     (name : List ℕ) (files : Option Files) (setup : Setup) → IfSome files (λ file. AreSetup setup (file name))
@@ -86,7 +97,8 @@ pub turns_judged :
     → turns_refusal setup bytes ≡ if_accepted setup.tables None
 turns_judged setup bytes turns are =
     is_within roles.Schedule bytes
-    (on_read roles.Schedule (λ t. if_accepted setup.tables None) (schedule_at (length setup.boards) (unread bytes))) are.0
+    (on_read roles.Schedule (λ t. if_accepted setup.tables None)
+    (schedule_at (length setup.boards) (unread bytes))) are.0
     ∙ ap (on_read roles.Schedule (λ (t : List ℕ). if_accepted setup.tables None)) are.1
 
 -- A run with a schedule.

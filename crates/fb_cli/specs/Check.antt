@@ -25,6 +25,7 @@ tables_at u = if is_book u then book_at u else tables_of (setup_at u)
 abbrev pub check : (setup : List ℕ) → Command
 check setup =
     on_files (setup_file ∷ [])
-    (λ bytes_of. with_file Role.Setup tables_at (bytes_of setup) (λ tables. if_accepted tables None))
+    (λ bytes_of.
+    with_file Role.Setup tables_at (bytes_of setup) (λ tables. if_accepted tables None))
     (λ bytes_of text.
     IfOk (tables_at (unread (bytes_of setup))) (λ tables. text ≡ report tables))

@@ -1,16 +1,15 @@
-use Rattle.std.proofs.Common.{refl}
 use Rattle.fb_cli.specs.Check.{check}
-use Rattle.fb_cli.proofs.Coming.{answer_comes, stops_come}
+use Rattle.fb_cli.proofs.Coming.{stops_come}
+use Rattle.fb_cli.proofs.Ready.{check_comes}
 use Rattle.fb_cli.proofs.checking.check.Goals as goal
 
 pub returns-in-Ok : goal.returns-in-Ok
 returns-in-Ok g c =
-    let command = check c.args.name.now in
-    answer_comes command.opens command.refusal command.prints (g.F.Shelf.file c.args.shelf.now) _ _ c.in-Ok.ensures.ready
-    refl c.in-Ok.ensures.report
+    check_comes c.args.name.now (g.F.Shelf.file c.args.shelf.now) (Unit {0}) c.in-Ok.text c.in-Ok.ensures.ready
+    c.in-Ok.ensures.report
 
-pub returns-in-Err : goal.returns-in-Err
-returns-in-Err g c =
+pub returns : goal.returns
+returns g c =
     let command = check c.args.name.now in
     stops_come command.opens command.refusal command.prints (g.F.Shelf.file c.args.shelf.now) _ c.in-Err.reply
     c.in-Err.ensures.ready

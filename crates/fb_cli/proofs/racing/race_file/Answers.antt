@@ -8,8 +8,8 @@ returns-in-Ok g c =
     (race_comes c.args.name.now (g.F.Shelf.file c.args.shelf.now) _ c.in-Ok.setup c.raced.result
     c.in-Ok.ensures.ready c.in-Ok.ensures.setup c.raced.ensures.done c.raced.ensures.run)
 
-pub returns-in-Err : goal.returns-in-Err
-returns-in-Err g c =
+pub returns : goal.returns
+returns g c =
     let command = race c.args.name.now in
     stops_come command.opens command.refusal command.prints (g.F.Shelf.file c.args.shelf.now) _ c.in-Err.reply
     c.in-Err.ensures.ready

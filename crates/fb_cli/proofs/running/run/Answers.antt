@@ -1,16 +1,23 @@
-use Rattle.fb_cli.specs.Run.{run}
+use Rattle.std.proofs.Common.{ℕ, List, subst, sym}
+use Rattle.std.specs.Prelude.{IfSome}
+use Rattle.fb_cli.specs.Command.{AreSetup}
+use Rattle.fb_cli.specs.Run.{AreTurns, run}
 use Rattle.fb_cli.proofs.Coming.{run_comes, stops_come}
 use Rattle.fb_cli.proofs.running.run.Goals as goal
 
 pub returns-in-Ok : goal.returns-in-Ok
 returns-in-Ok g c =
+    let files = g.F.Shelf.file c.args.shelf.now in
+    let setup = c.in-Ok.scheduled.setup in
+    let read = subst (λ (t : List ℕ).
+    IfSome files (λ file. AreSetup setup (file c.args.name.now) × AreTurns setup t (file c.args.schedule.now)))
+    (sym c.deref.ensures.value) c.in-Ok.ensures.read in
     rw c.of.ensures
-    (run_comes c.args.name.now c.args.schedule.now (g.F.Shelf.file c.args.shelf.now) _ c.in-Ok.scheduled.setup
-    c.in-Ok.scheduled.turns.items c.play_turns.result
-    c.in-Ok.ensures.ready c.in-Ok.ensures.read c.play_turns.ensures.output c.play_turns.ensures.run)
+    (run_comes c.args.name.now c.args.schedule.now files _ setup c.deref.result.now c.play_turns.result
+    c.in-Ok.ensures.ready read c.play_turns.ensures.output c.play_turns.ensures.run)
 
-pub returns-in-Err : goal.returns-in-Err
-returns-in-Err g c =
+pub returns : goal.returns
+returns g c =
     let command = run c.args.name.now c.args.schedule.now in
     stops_come command.opens command.refusal command.prints (g.F.Shelf.file c.args.shelf.now) _ c.in-Err.reply
     c.in-Err.ensures.ready

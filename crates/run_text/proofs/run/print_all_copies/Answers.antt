@@ -17,12 +17,14 @@ returns-in_err-print_copies g c =
     let test = c.loop-place-test.true in
     record {
       paged = rw (p.1, p.2) (
-          failed-behind (flat_map (board_copies (configuration c.args.machine.now) (line_count c.args.machine.now.setup))
+          failed-behind
+          (flat_map (board_copies (configuration c.args.machine.now) (line_count c.args.machine.now.setup))
           (drop (suc at) (board_places machine.setup)))
           (flat_map (board_copies (configuration c.args.machine.now) (line_count c.args.machine.now.setup))
           (board_places machine.setup)) c.in_err-print_copies.field-0.0
           (places-at (board_copies (configuration c.args.machine.now) (line_count c.args.machine.now.setup))
-          machine.setup.boards at (omega (arith, boards, test))) c.loop-place.invariant.paged c.in_err-print_copies.ensures.paged);
+          machine.setup.boards at (omega (arith, boards, test))) c.loop-place.invariant.paged
+          c.in_err-print_copies.ensures.paged);
     }
 
 pub loop-place-preserved : goal.loop-place-preserved
@@ -45,6 +47,7 @@ returns g c =
     let test = c.loop-place-test.false in
     record {
       paged =
-          done-behind (places-all (board_copies (configuration c.args.machine.now) (line_count c.args.machine.now.setup))
+          done-behind
+          (places-all (board_copies (configuration c.args.machine.now) (line_count c.args.machine.now.setup))
           machine.setup.boards c.loop-place.place (omega (arith, boards, test))) c.loop-place.invariant.paged;
     }

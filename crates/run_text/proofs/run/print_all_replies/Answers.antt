@@ -19,7 +19,8 @@ returns-in_err-print_board_replies g c =
       paged = rw (p.1, p.2) (
           failed-behind
           (flat_map (board_replies (entries c.args.machine.now.journal)) (drop (suc at) (board_places machine.setup)))
-          (flat_map (board_replies (entries c.args.machine.now.journal)) (board_places machine.setup)) c.in_err-print_board_replies.field-0.0
+          (flat_map (board_replies (entries c.args.machine.now.journal)) (board_places machine.setup))
+          c.in_err-print_board_replies.field-0.0
           (places-at (board_replies (entries c.args.machine.now.journal)) machine.setup.boards at
           (omega (arith, boards, test))) c.loop-place.invariant.paged c.in_err-print_board_replies.ensures.paged);
     }
@@ -43,6 +44,6 @@ returns g c =
     let test = c.loop-place-test.false in
     record {
       paged =
-          done-behind (places-all (board_replies (entries c.args.machine.now.journal)) machine.setup.boards c.loop-place.place
-          (omega (arith, boards, test))) c.loop-place.invariant.paged;
+          done-behind (places-all (board_replies (entries c.args.machine.now.journal)) machine.setup.boards
+          c.loop-place.place (omega (arith, boards, test))) c.loop-place.invariant.paged;
     }

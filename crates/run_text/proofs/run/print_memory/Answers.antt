@@ -16,7 +16,8 @@ returns-in_err-print_memory_line g c =
     c.loop-number.number (omega (arith, lines, test)) in
     record {
       paged = rw (p.1, p.2) (
-          failed-behind r.0 _ c.in_err-print_memory_line.field-0.0 r.1 c.loop-number.invariant.paged c.in_err-print_memory_line.ensures.paged);
+          failed-behind r.0 _ c.in_err-print_memory_line.field-0.0 r.1
+          c.loop-number.invariant.paged c.in_err-print_memory_line.ensures.paged);
     }
 
 pub loop-number-preserved : goal.loop-number-preserved

@@ -11,7 +11,8 @@ returns-clause-lines c =
     let here = c.board_lines.new.text.bytes in
     let same = same_lines (counts_at c.traffic-report.result) (counts_of journal) c.args.boards
     c.traffic-report.ensures.boards c.requires.most in
-    let memory : c.memory-served.result ≡ memory_counts journal = c.memory-served.ensures ∙ c.traffic-report.ensures.memory in
+    let memory : c.memory-served.result ≡ memory_counts journal =
+    c.memory-served.ensures ∙ c.traffic-report.ensures.memory in
     two_pieces old here c.supplied_and_taken.new.text.bytes
     (board_lines (counts_of journal) c.args.boards) (memory_line (memory_counts journal))
     (c.board_lines.ensures.appends.bytes ∙ ap (λ (t : List ℕ). old ++ t) same)
