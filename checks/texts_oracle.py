@@ -118,11 +118,15 @@ class Setup:
             lines = line.number_to(2**32 - 1)
             if not 1 <= lines <= 4096:
                 line.fault(f"limit lines {lines}")
-            self.lines, self.mode = lines, "words"
-        elif head == b"word" and self.mode == "words":
+            self.lines, self.mode = lines, "arbiter"
+        elif head == b"arbiter" and self.mode == "arbiter":
+            self.mode = "words"
+            line.expect(b"fair")
+        elif head == b"word" and self.mode in ("arbiter", "words"):
+            self.mode = "words"
             self.address(line)
             line.number_to(2**32 - 1)
-        elif head == b"table" and self.mode in ("words", "tables"):
+        elif head == b"table" and self.mode in ("arbiter", "words", "tables"):
             self.mode = "tables"
             if len(self.tables) == 16:
                 line.fault("limit tables 17")
@@ -167,7 +171,7 @@ class Setup:
         if line.word() != str(self.boards + 1).encode():
             line.fault("number")
         line.expect(b"number")
-        number = line.number_to(255, 1)
+        number = line.number_to(1023, 1)
         if number in self.numbers:
             line.fault("twice-number")
         line.expect(b"table")

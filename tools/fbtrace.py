@@ -113,7 +113,7 @@ def read_setup(path):
                 memory[int(words[1]) // 4][int(words[1]) % 4] = int(words[2])
             elif kind == "board":
                 boards.append(Board(words))
-            elif kind != "end":
+            elif kind not in ("arbiter", "end"):
                 raise ValueError(kind)
     except (ValueError, IndexError, TypeError):
         raise Unfit(f"{path}: the setup cannot be read: `futurebus show` says where") from None

@@ -214,15 +214,15 @@ wired_is j high (v ∷ values) value each (inr there) is =
     or_shr v (wired_lines values) j ∙ ap (bit_or (v / 2 ^ j)) (wired_is j high values value each.1 there is) ∙ each.0
 
 pub own_driven :
-    (lines h j : ℕ) → j ≤ 7 → lines / 2 ^ suc j ≡ h / 2 ^ suc j → driven_below 8 lines h / 2 ^ j ≡ h / 2 ^ j
-own_driven lines h j within agree = own lines h j agree (7 - j) 7 (omega (arith, within))
+    (lines h j : ℕ) → j ≤ 9 → lines / 2 ^ suc j ≡ h / 2 ^ suc j → driven_below 10 lines h / 2 ^ j ≡ h / 2 ^ j
+own_driven lines h j within agree = own lines h j agree (9 - j) 9 (omega (arith, within))
 
 pub part_driven :
-    (lines h j n : ℕ) → j ≤ 7 → n ≤ h → h ≤ 255 → lines / 2 ^ suc j ≡ h / 2 ^ suc j
-    → Covers (h / 2 ^ j) (driven_below 8 lines n / 2 ^ j)
-part_driven lines h j n within below byte agree =
-    let none : n / 2 ^ suc 7 ≡ h / 2 ^ suc 7 = omega (arith, below, byte) in
-    part lines h j agree n below (7 - j) 7 (omega (arith, within)) none
+    (lines h j n : ℕ) → j ≤ 9 → n ≤ h → h ≤ 1023 → lines / 2 ^ suc j ≡ h / 2 ^ suc j
+    → Covers (h / 2 ^ j) (driven_below 10 lines n / 2 ^ j)
+part_driven lines h j n within below ten_bits agree =
+    let none : n / 2 ^ suc 9 ≡ h / 2 ^ suc 9 = omega (arith, below, ten_bits) in
+    part lines h j agree n below (9 - j) 9 (omega (arith, within)) none
 
 pub smaller_quotient : (x y k : ℕ) → x ≤ y → x / 2 ^ k ≤ y / 2 ^ k
 smaller_quotient = smaller

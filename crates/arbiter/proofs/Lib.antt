@@ -4,3 +4,4 @@ pub mod Driven
 pub mod Wired
 pub mod Settles
 pub mod Requesting
+pub mod Waiting

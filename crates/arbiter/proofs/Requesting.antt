@@ -4,7 +4,7 @@ use Rattle.std.specs.Prelude.{All, slice_index, slice_index_or, ◌==◌}
 use Rattle.std.proofs.lemmas.Bool.{eqb-true, eq-eqb}
 use Rattle.bus_model.specs.Settling.{highest}
 use Rattle.arbiter.specs.Contests.{IsNumber, IsContest}
-use Rattle.arbiter.specs.Raised.{raised_numbers, winner_from}
+use Rattle.arbiter.specs.Raised.{marked_numbers, winner_from}
 use Rattle.arbiter.proofs.Members.{In, highest-in}
 
 drop_at :
@@ -22,14 +22,14 @@ drop_end (x ∷ xs) (suc i) h = drop_end xs i (omega arith)
 
 raised_step :
     (numbers : List ℕ) (raised : List Bool) (i : ℕ) → i < length numbers → i < length raised
-    → raised_numbers (drop i numbers) (drop i raised)
+    → marked_numbers (drop i numbers) (drop i raised)
     ≡ cond (slice_index_or raised i false) (slice_index numbers i ∷ []) []
-    ++ raised_numbers (drop (i + 1) numbers) (drop (i + 1) raised)
+    ++ marked_numbers (drop (i + 1) numbers) (drop (i + 1) raised)
 raised_step numbers raised i h k =
     rw (drop_at numbers i 0 h, drop_at raised i false k) (go (slice_index_or raised i false))
   where
     rest : List ℕ
-    rest = raised_numbers (drop (i + 1) numbers) (drop (i + 1) raised)
+    rest = marked_numbers (drop (i + 1) numbers) (drop (i + 1) raised)
 
     go : (b : Bool) → cond b (slice_index numbers i ∷ rest) rest ≡ cond b (slice_index numbers i ∷ []) [] ++ rest
     go true = refl
@@ -38,22 +38,22 @@ raised_step numbers raised i h k =
 -- What was gathered from the first boards, and what is left to gather from the others.
 pub gathered_more :
     (numbers : List ℕ) (raised : List Bool) (i : ℕ) (before later : List ℕ) → i < length numbers → i < length raised
-    → raised_numbers numbers raised ≡ before ++ raised_numbers (drop i numbers) (drop i raised)
+    → marked_numbers numbers raised ≡ before ++ marked_numbers (drop i numbers) (drop i raised)
     → later ≡ before ++ cond (slice_index_or raised i false) (slice_index numbers i ∷ []) []
-    → raised_numbers numbers raised ≡ later ++ raised_numbers (drop (i + 1) numbers) (drop (i + 1) raised)
+    → marked_numbers numbers raised ≡ later ++ marked_numbers (drop (i + 1) numbers) (drop (i + 1) raised)
 gathered_more numbers raised i before later h k e f =
     let one = cond (slice_index_or raised i false) (slice_index numbers i ∷ []) [] in
-    let rest = raised_numbers (drop (i + 1) numbers) (drop (i + 1) raised) in
+    let rest = marked_numbers (drop (i + 1) numbers) (drop (i + 1) raised) in
     e ∙ ap (λ x. before ++ x) (raised_step numbers raised i h k) ∙ sym (append_assoc before one rest)
     ∙ ap (λ x. x ++ rest) (sym f)
 
 pub gathered_all :
     (numbers : List ℕ) (raised : List Bool) (i : ℕ) (before : List ℕ) → length numbers ≤ i
-    → raised_numbers numbers raised ≡ before ++ raised_numbers (drop i numbers) (drop i raised)
-    → before ≡ raised_numbers numbers raised
+    → marked_numbers numbers raised ≡ before ++ marked_numbers (drop i numbers) (drop i raised)
+    → before ≡ marked_numbers numbers raised
 gathered_all numbers raised i before h e =
-    let none : raised_numbers (drop i numbers) (drop i raised) ≡ [] =
-    ap (λ ns. raised_numbers ns (drop i raised)) (drop_end numbers i h) in
+    let none : marked_numbers (drop i numbers) (drop i raised) ≡ [] =
+    ap (λ ns. marked_numbers ns (drop i raised)) (drop_end numbers i h) in
     sym (e ∙ ap (λ x. before ++ x) none ∙ append-nil before)
 
 -- The winner, searched for from this board on.
@@ -95,25 +95,25 @@ winner_none numbers raised i number h e =
 
 -- ---- the competing numbers
 
-raised_within : (numbers : List ℕ) (raised : List Bool) → length (raised_numbers numbers raised) ≤ length numbers
+raised_within : (numbers : List ℕ) (raised : List Bool) → length (marked_numbers numbers raised) ≤ length numbers
 raised_within [] raised = omega arith
 raised_within (n ∷ numbers) [] = omega arith
 raised_within (n ∷ numbers) (r ∷ raised) = go r (raised_within numbers raised)
   where
     go :
-        (b : Bool) → length (raised_numbers numbers raised) ≤ length numbers
-        → length (cond b (n ∷ raised_numbers numbers raised) (raised_numbers numbers raised)) ≤ length (n ∷ numbers)
+        (b : Bool) → length (marked_numbers numbers raised) ≤ length numbers
+        → length (cond b (n ∷ marked_numbers numbers raised) (marked_numbers numbers raised)) ≤ length (n ∷ numbers)
     go true h = omega (arith, h)
     go false h = omega (arith, h)
 
-raised_in : (numbers : List ℕ) (raised : List Bool) (x : ℕ) → In x (raised_numbers numbers raised) → In x numbers
+raised_in : (numbers : List ℕ) (raised : List Bool) (x : ℕ) → In x (marked_numbers numbers raised) → In x numbers
 raised_in [] raised x h = absurd h
 raised_in (n ∷ numbers) [] x h = absurd h
 raised_in (n ∷ numbers) (r ∷ raised) x h = go r h (raised_in numbers raised x)
   where
     go :
-        (b : Bool) → In x (cond b (n ∷ raised_numbers numbers raised) (raised_numbers numbers raised))
-        → (In x (raised_numbers numbers raised) → In x numbers) → (x ≡ n) ⊎ In x numbers
+        (b : Bool) → In x (cond b (n ∷ marked_numbers numbers raised) (marked_numbers numbers raised))
+        → (In x (marked_numbers numbers raised) → In x numbers) → (x ≡ n) ⊎ In x numbers
     go true (inl e) rest = inl e
     go true (inr there) rest = inr (rest there)
     go false there rest = inr (rest there)
@@ -130,45 +130,45 @@ all_from P (y ∷ ys) each (suc i) d lt = all_from P ys (λ x there. each x (inr
 
 -- The competing numbers are a contest, if there are any.
 pub raised_contest :
-    (numbers : List ℕ) (raised : List Bool) → IsContest numbers → 1 ≤ length (raised_numbers numbers raised)
-    → IsContest (raised_numbers numbers raised)
+    (numbers : List ℕ) (raised : List Bool) → IsContest numbers → 1 ≤ length (marked_numbers numbers raised)
+    → IsContest (marked_numbers numbers raised)
 raised_contest numbers raised contest some = record {
   some = some;
   most = let within = raised_within numbers raised in omega (arith, within, contest.most);
   each =
-      all_from IsNumber (raised_numbers numbers raised)
+      all_from IsNumber (marked_numbers numbers raised)
       (λ x there. all_to IsNumber numbers contest.each x (raised_in numbers raised x there));
 }
 
 -- A number that competes is that of some winner.
 winner_there :
-    (place : ℕ) (numbers : List ℕ) (raised : List Bool) (number : ℕ) → In number (raised_numbers numbers raised)
+    (place : ℕ) (numbers : List ℕ) (raised : List Bool) (number : ℕ) → In number (marked_numbers numbers raised)
     → winner_from place numbers raised number ≢ None
 winner_there place [] raised number there = absurd there
 winner_there place (n ∷ numbers) [] number there = absurd there
 winner_there place (n ∷ numbers) (r ∷ raised) number there = go r there (winner_there (suc place) numbers raised number)
   where
     first :
-        (b : Bool) → (number ≡ n → b ≡ true) → (number ≡ n) ⊎ In number (raised_numbers numbers raised)
-        → (In number (raised_numbers numbers raised) → winner_from (suc place) numbers raised number ≢ None)
+        (b : Bool) → (number ≡ n → b ≡ true) → (number ≡ n) ⊎ In number (marked_numbers numbers raised)
+        → (In number (marked_numbers numbers raised) → winner_from (suc place) numbers raised number ≢ None)
         → cond b (Some place) (winner_from (suc place) numbers raised number) ≢ None
     first true h there rest = λ e. cc
     first false h (inl e) rest = let t : false ≡ true = h e in cc
     first false h (inr later) rest = rest later
 
     go :
-        (b : Bool) → In number (cond b (n ∷ raised_numbers numbers raised) (raised_numbers numbers raised))
-        → (In number (raised_numbers numbers raised) → winner_from (suc place) numbers raised number ≢ None)
+        (b : Bool) → In number (cond b (n ∷ marked_numbers numbers raised) (marked_numbers numbers raised))
+        → (In number (marked_numbers numbers raised) → winner_from (suc place) numbers raised number ≢ None)
         → cond (b && (n == number)) (Some place) (winner_from (suc place) numbers raised number) ≢ None
     go true there rest = first (n == number) (λ e. eq-eqb n number (sym e)) there rest
     go false there rest = rest there
 
 pub highest_wins :
-    (numbers : List ℕ) (raised : List Bool) → 1 ≤ length (raised_numbers numbers raised)
-    → winner_from 1 numbers raised (highest (raised_numbers numbers raised)) ≢ None
+    (numbers : List ℕ) (raised : List Bool) → 1 ≤ length (marked_numbers numbers raised)
+    → winner_from 1 numbers raised (highest (marked_numbers numbers raised)) ≢ None
 highest_wins numbers raised some =
-    winner_there 1 numbers raised (highest (raised_numbers numbers raised))
-    (highest-in (raised_numbers numbers raised) some)
+    winner_there 1 numbers raised (highest (marked_numbers numbers raised))
+    (highest-in (marked_numbers numbers raised) some)
 
 -- What is known of a winner.
 pub record Won (numbers : List ℕ) (raised : List Bool) (number index : ℕ) : Type 0 where
@@ -225,7 +225,7 @@ won numbers raised number index e =
 -- If any number competes, the first that does has a winner.
 pub some_compete :
     (numbers : List ℕ) (raised : List Bool) (count : ℕ) (gathered : List ℕ)
-    → take count gathered ≡ raised_numbers numbers raised → length (take count gathered) ≡ count → (count ≡ 0 → ⊥)
-    → 1 ≤ length (raised_numbers numbers raised)
+    → take count gathered ≡ marked_numbers numbers raised → length (take count gathered) ≡ count → (count ≡ 0 → ⊥)
+    → 1 ≤ length (marked_numbers numbers raised)
 some_compete numbers raised zero gathered e long some = absurd (some refl)
 some_compete numbers raised (suc k) gathered e long some = let same = ap length e in omega (arith, same, long)

@@ -1,4 +1,4 @@
--- The lines of a contest settle to the highest number in at most seven rounds, and a search for the first round that
+-- The lines of a contest settle to the highest number in at most nine rounds, and a search for the first round that
 -- changes nothing finds the one that the definition finds.
 use Rattle.std.proofs.Common.{◌≡◌, ◌≢◌, ℕ, zero, suc, ◌+◌, ◌-◌, ◌/◌, ◌^◌, ◌<◌, ◌≤◌, cond, List, [], ◌∷◌, map, refl, sym, ap, ◌∙◌, subst, arith, inl, inr, ◌⊎◌}
 use Rattle.std.specs.Prelude.{All, ◌==◌}
@@ -40,7 +40,7 @@ differ_more numbers rounds before last k less = go (cases_lt k rounds)
 -- What a search for the first round that changes nothing has found.
 pub record Found (numbers : List ℕ) (lines rounds : ℕ) : Type 0 where
   pub shown : lines ≡ lines_after numbers rounds
-  pub within : rounds ≤ 7
+  pub within : rounds ≤ 9
   pub differ : (k : ℕ) → k < rounds → lines_after numbers (suc k) ≢ lines_after numbers k
   pub stays : lines_after numbers (suc rounds) ≡ lines_after numbers rounds
 
@@ -51,42 +51,42 @@ module _ (numbers : List ℕ) (contest : IsContest numbers) where
   high_in : In high numbers
   high_in = highest-in numbers contest.some
 
-  byte : high ≤ 255
-  byte = (all_of IsNumber numbers contest.each high high_in).1
+  ten_bits : high ≤ 1023
+  ten_bits = (all_of IsNumber numbers contest.each high high_in).1
 
   -- A round makes the lines agree with the highest number in one bit more.
   next_top :
-      (lines j : ℕ) → j ≤ 7 → lines / 2 ^ suc j ≡ high / 2 ^ suc j → next_lines numbers lines / 2 ^ j ≡ high / 2 ^ j
+      (lines j : ℕ) → j ≤ 9 → lines / 2 ^ suc j ≡ high / 2 ^ suc j → next_lines numbers lines / 2 ^ j ≡ high / 2 ^ j
   next_top lines j within agree =
       wired_is j (high / 2 ^ j) (map (λ number. driven lines number) numbers) (driven lines high)
       (all-map (λ v. Covers (high / 2 ^ j) (v / 2 ^ j)) (λ number. driven lines number) numbers
-      (λ n there. part_driven lines high j n within (highest-above numbers n there) byte agree))
+      (λ n there. part_driven lines high j n within (highest-above numbers n there) ten_bits agree))
       (in-map (λ number. driven lines number) numbers high high_in)
       (own_driven lines high j within agree)
 
-  first_top : wired_lines numbers / 2 ^ 7 ≡ high / 2 ^ 7
+  first_top : wired_lines numbers / 2 ^ 9 ≡ high / 2 ^ 9
   first_top =
-      wired_is 7 (high / 2 ^ 7) numbers high
-      (all-in (λ v. Covers (high / 2 ^ 7) (v / 2 ^ 7)) numbers
+      wired_is 9 (high / 2 ^ 9) numbers high
+      (all-in (λ v. Covers (high / 2 ^ 9) (v / 2 ^ 9)) numbers
       (λ n there.
       let below = highest-above numbers n there in
-      covers_half (n / 2 ^ 7) (high / 2 ^ 7) (omega (arith, below, byte)) (smaller_quotient n high 7 below)))
+      covers_half (n / 2 ^ 9) (high / 2 ^ 9) (omega (arith, below, ten_bits)) (smaller_quotient n high 9 below)))
       high_in refl
 
-  top : (k j : ℕ) → k + j ≡ 7 → lines_after numbers k / 2 ^ j ≡ high / 2 ^ j
+  top : (k j : ℕ) → k + j ≡ 9 → lines_after numbers k / 2 ^ j ≡ high / 2 ^ j
   unfolding lines_after
   top zero j e =
-      let same : 7 ≡ j = omega (arith, e) in
+      let same : 9 ≡ j = omega (arith, e) in
       subst (λ (i : ℕ). wired_lines numbers / 2 ^ i ≡ high / 2 ^ i) same first_top
   top (suc k) j e = next_top (lines_after numbers k) j (omega (arith, e)) (top k (suc j) (omega (arith, e)))
 
-  at_seven : lines_after numbers 7 ≡ high
-  at_seven = let e = top 7 0 refl in omega (arith, e)
+  at_nine : lines_after numbers 9 ≡ high
+  at_nine = let e = top 9 0 refl in omega (arith, e)
 
-  at_eight : lines_after numbers 8 ≡ high
+  at_ten : lines_after numbers 10 ≡ high
   unfolding lines_after
-  at_eight =
-      let e = next_top (lines_after numbers 7) 0 (omega arith) (ap (λ x. x / 2 ^ 1) at_seven) in
+  at_ten =
+      let e = next_top (lines_after numbers 9) 0 (omega arith) (ap (λ x. x / 2 ^ 1) at_nine) in
       omega (arith, e)
 
   still :
@@ -99,21 +99,21 @@ module _ (numbers : List ℕ) (contest : IsContest numbers) where
       ap (lines_after numbers) next ∙ ap (next_lines numbers) (still k r e) ∙ e
 
   -- Lines that a round leaves as they are show the highest number.
-  shows_highest : (r : ℕ) → r ≤ 7 → lines_after numbers (suc r) ≡ lines_after numbers r → lines_after numbers r ≡ high
+  shows_highest : (r : ℕ) → r ≤ 9 → lines_after numbers (suc r) ≡ lines_after numbers r → lines_after numbers r ≡ high
   shows_highest r within e =
-      let place : (7 - r) + r ≡ 7 = omega (arith, within) in
-      sym (still (7 - r) r e) ∙ ap (lines_after numbers) place ∙ at_seven
+      let place : (9 - r) + r ≡ 9 = omega (arith, within) in
+      sym (still (9 - r) r e) ∙ ap (lines_after numbers) place ∙ at_nine
 
-  -- After a round that changes the lines there have been no more than seven.
-  pub few_rounds : (r : ℕ) → r ≤ 7 → lines_after numbers (suc r) ≢ lines_after numbers r → r + 1 ≤ 7
-  few_rounds r within other = go (cases_lt r 7)
+  -- After a round that changes the lines there have been no more than nine.
+  pub few_rounds : (r : ℕ) → r ≤ 9 → lines_after numbers (suc r) ≢ lines_after numbers r → r + 1 ≤ 9
+  few_rounds r within other = go (cases_lt r 9)
     where
-      go : (r < 7) ⊎ (7 ≤ r) → r + 1 ≤ 7
+      go : (r < 9) ⊎ (9 ≤ r) → r + 1 ≤ 9
       go (inl less) = omega (arith, less)
       go (inr more) =
-          let same : 7 ≡ r = omega (arith, more, within) in
+          let same : 9 ≡ r = omega (arith, more, within) in
           absurd (other (subst (λ (i : ℕ). lines_after numbers (suc i) ≡ lines_after numbers i) same
-          (at_eight ∙ sym at_seven)))
+          (at_ten ∙ sym at_nine)))
 
   search_finds :
       (tries k r : ℕ) → k ≤ r → r < k + tries → ((i : ℕ) → i < r → lines_after numbers (suc i) ≢ lines_after numbers i)
@@ -134,9 +134,9 @@ module _ (numbers : List ℕ) (contest : IsContest numbers) where
           rw (eq-eqb (lines_after numbers (suc k)) (lines_after numbers k) here) (sym same)
 
   rounds_are :
-      (r : ℕ) → r ≤ 7 → ((i : ℕ) → i < r → lines_after numbers (suc i) ≢ lines_after numbers i)
+      (r : ℕ) → r ≤ 9 → ((i : ℕ) → i < r → lines_after numbers (suc i) ≢ lines_after numbers i)
       → lines_after numbers (suc r) ≡ lines_after numbers r → settled_rounds numbers ≡ r
-  rounds_are r within differ e = search_finds 8 0 r (omega arith) (omega (arith, within)) differ e
+  rounds_are r within differ e = search_finds 10 0 r (omega arith) (omega (arith, within)) differ e
 
   pub found_settles : (lines rounds : ℕ) → Found numbers lines rounds → SettlesIn numbers lines rounds
   found_settles lines rounds found = record { shown = found.shown; stays = found.stays; least = found.differ }

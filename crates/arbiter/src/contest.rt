@@ -43,7 +43,7 @@ fn cleared_below(number: u16, bit: u16) -> u16
 fn driven(lines: u16, number: u16) -> u16
     ensures { result ≡ drives lines number }
 {
-    let mut bit = 8u16;
+    let mut bit = 10u16;
     while bit > 0 {
         bit -= 1;
         if disagrees(lines, number, bit) {
@@ -84,8 +84,8 @@ pub fn settle<L: Ledger>(numbers: &[u16], steps: &mut Steps<L>) -> Settled
     ensures rounds { result.rounds ≡ settled_rounds numbers.now }
     ensures settles { SettlesIn numbers.now result.lines result.rounds }
     ensures highest { result.lines ≡ highest numbers.now }
-    ensures few_rounds { result.rounds ≤ 7 }
-    ensures looks { steps.new ≤ steps.old + 8 * length numbers.now }
+    ensures few_rounds { result.rounds ≤ 9 }
+    ensures looks { steps.new ≤ steps.old + 10 * length numbers.now }
 {
     let mut lines = whole(numbers);
     let mut rounds = 0;

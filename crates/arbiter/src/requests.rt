@@ -1,9 +1,9 @@
 //! The requests of the boards for the bus.
 
-ghost use Rattle.std.specs.Prelude.{◌≡◌, ◌==◌, ◌&&◌, ◌↔◌, ◌≤◌, ◌<◌, ◌+◌, ◌++◌, ◌∷◌, [], true, false, Some, None, length, take, IfSome, IfNone, IsNone, if◌then◌else◌};
+ghost use Rattle.std.specs.Prelude.{◌≡◌, ◌==◌, not, ◌&&◌, ◌↔◌, ◌≤◌, ◌<◌, ◌+◌, ◌++◌, ◌∷◌, [], true, false, Some, None, length, take, IfSome, IfNone, IsNone, if◌then◌else◌};
 ghost use Rattle.bus_model.specs.Settling.{settled_lines, settled_rounds, highest};
 ghost use Rattle.arbiter.specs.Contests.{IsContest};
-ghost use Rattle.arbiter.specs.Raised.{raised_numbers, winner_from, competitors, winner_with, IsBoard, has_raised, number_at, nobody_raised, with_request};
+ghost use Rattle.arbiter.specs.Raised.{marked_numbers, winner_from, waiting as waiting_of, does_any_wait, contenders, competitors, winner_with, IsBoard, has_raised, was_served, does_compete, number_at, nobody_raised, with_request, marks_at_grant, with_mark, won_by};
 
 use crate::contest::{Settled, settle};
 use crate::steps::Steps;
@@ -18,12 +18,14 @@ pub struct Grant {
     pub settled: Settled,
 }
 
-/// The requests of 1 to 16 boards. Contracts see the boards' numbers, and which of the boards have
-/// raised a request.
+/// The requests of 1 to 16 boards. Contracts see the boards' numbers, whether the bus is arbitrated
+/// fairly, and which of the boards have raised a request and which were served.
 #[derive(Drop)]
 pub struct Requests {
     numbers: Vec<u16>,
+    fair: bool,
     raised: [bool; 16],
+    served: [bool; 16],
 }
 
 impl Model for Requests {
@@ -32,7 +34,12 @@ impl Model for Requests {
 
     ghost Value = { Requests };
 
-    ghost view = { λ r. record { numbers = r.numbers.items; raised = r.raised } };
+    ghost view = { λ r. record {
+      numbers = r.numbers.items;
+      fair = r.fair;
+      raised = r.raised;
+      served = r.served;
+    } };
 
     ghost invariant = { λ r. IsContest r.numbers.items };
 }
@@ -53,17 +60,17 @@ fn add_if(competes: bool, numbers: &mut [u16; 16], count: usize, number: u16) ->
     count + 1
 }
 
-/// The numbers of the boards that have raised a request, and how many they are.
-fn gather(numbers: &[u16], raised: &[bool; 16]) -> ([u16; 16], usize)
+/// The numbers of the boards that are marked, and how many they are.
+fn gather(numbers: &[u16], marks: &[bool; 16]) -> ([u16; 16], usize)
     requires { length numbers.now ≤ 16 }
-    ensures numbers { take result.1 result.0 ≡ raised_numbers numbers.now raised.now }
+    ensures numbers { take result.1 result.0 ≡ marked_numbers numbers.now marks.now }
     ensures within { result.1 ≤ 16 }
     ensures long { length (take result.1 result.0) ≡ result.1 }
 {
     let mut gathered = [0; 16];
     let mut count = 0;
     for (i, number) in numbers.iter().enumerate() {
-        count = add_if(raised[i], &mut gathered, count, *number);
+        count = add_if(marks[i], &mut gathered, count, *number);
     }
     (gathered, count)
 }
@@ -75,20 +82,38 @@ fn wins(competes: bool, own: u16, number: u16) -> bool
     competes && own == number
 }
 
-/// The index of the first board that has raised a request and has this number.
-fn index_of(numbers: &[u16], raised: &[bool; 16], number: u16) -> Option<usize>
+/// The index of the first board that is marked and has this number.
+fn index_of(numbers: &[u16], marks: &[bool; 16], number: u16) -> Option<usize>
     requires { length numbers.now ≤ 16 }
     ensures found { IfSome result
-        (λ i. winner_from 1 numbers.now raised.now number ≡ Some (i + 1)) }
-    ensures none { IfNone result (winner_from 1 numbers.now raised.now number ≡ None) }
+        (λ i. winner_from 1 numbers.now marks.now number ≡ Some (i + 1)) }
+    ensures none { IfNone result (winner_from 1 numbers.now marks.now number ≡ None) }
     ensures within { IfSome result (λ i. i < length numbers.now) }
 {
     for (i, own) in numbers.iter().enumerate() {
-        if wins(raised[i], *own, number) {
+        if wins(marks[i], *own, number) {
             return Some(i);
         }
     }
     None
+}
+
+/// Whether a board waits to be served.
+fn waits(raised: bool, served: bool) -> bool
+    ensures { result ≡ (raised && not served) }
+{
+    raised && !served
+}
+
+/// Which boards wait to be served: they have raised a request, and were not served.
+fn waiting(raised: &[bool; 16], served: &[bool; 16]) -> [bool; 16]
+    ensures { result ≡ waiting_of raised.now served.now }
+{
+    let mut waiting = *raised;
+    for (i, mark) in served.iter().enumerate() {
+        waiting[i] = waits(raised[i], *mark);
+    }
+    waiting
 }
 
 /// Settles a contest without counting the looks.
@@ -105,14 +130,16 @@ fn settled<L: Ledger>(blank: Blank, numbers: &[u16]) -> Settled
 }
 
 impl Requests {
-    /// Nobody has raised a request. The first number is that of board 1.
-    pub fn new(numbers: Vec<u16>) -> Requests
+    /// Nobody has raised a request, and nobody was served. The first number is that of board 1.
+    pub fn new(numbers: Vec<u16>, fair: bool) -> Requests
         requires { IsContest numbers.items }
-        ensures { result ≡ nobody_raised numbers.items }
+        ensures { result ≡ nobody_raised numbers.items fair }
     {
         Requests {
             numbers,
+            fair,
             raised: [false; 16],
+            served: [false; 16],
         }
     }
 
@@ -141,12 +168,52 @@ impl Requests {
         self.raised[board.0 as usize - 1]
     }
 
+    /// Whether a board was served.
+    pub fn served(&self, board: BoardNo) -> bool
+        requires { IsBoard self.now board }
+        ensures served { result ≡ was_served self.now board }
+        ensures contest { IsContest self.now.numbers }
+    {
+        self.served[board.0 as usize - 1]
+    }
+
+    /// Whether any board waits to be served.
+    fn does_any_wait(&self) -> bool
+        ensures { result ≡ does_any_wait self.now }
+    {
+        let waiting = waiting(&self.raised, &self.served);
+        let (_, count) = gather(&self.numbers, &waiting);
+        count > 0
+    }
+
+    /// Which boards compete: those that have raised a request, or fairly, if any board waits to be
+    /// served, those that do.
+    fn contenders(&self) -> [bool; 16]
+        ensures { result ≡ contenders self.now }
+    {
+        if self.fair && self.does_any_wait() {
+            return waiting(&self.raised, &self.served);
+        }
+        self.raised
+    }
+
+    /// Whether a board competes for the bus.
+    pub fn competes(&self, board: BoardNo) -> bool
+        requires { IsBoard self.now board }
+        ensures competes { result ≡ does_compete self.now board }
+        ensures contest { IsContest self.now.numbers }
+    {
+        let _ = &self.numbers;
+        let contenders = self.contenders();
+        contenders[board.0 as usize - 1]
+    }
+
     /// The grant that the lines settle to: the competing board with the highest number. `None`
     /// where nobody competes.
     pub fn contest(&self) -> Option<Grant>
         ensures none { IsNone result ↔ (competitors self.now ≡ []) }
         ensures board { IfSome result (λ grant. IsBoard self.now grant.winner) }
-        ensures raised { IfSome result (λ grant. has_raised self.now grant.winner ≡ true) }
+        ensures competes { IfSome result (λ grant. does_compete self.now grant.winner ≡ true) }
         ensures highest { IfSome result
             (λ grant. number_at self.now grant.winner ≡ highest (competitors self.now)) }
         ensures first { IfSome result
@@ -158,12 +225,13 @@ impl Requests {
         ensures rounds { IfSome result
             (λ grant. grant.settled.rounds ≡ settled_rounds (competitors self.now)) }
     {
-        let (numbers, count) = gather(&self.numbers, &self.raised);
+        let contenders = self.contenders();
+        let (numbers, count) = gather(&self.numbers, &contenders);
         if count == 0 {
             return None;
         }
         let settled = settled::<Brand>(Blank::new(1), &numbers[..count]);
-        let Some(index) = index_of(&self.numbers, &self.raised, settled.lines) else {
+        let Some(index) = index_of(&self.numbers, &contenders, settled.lines) else {
             return None;
         };
         Some(Grant {
@@ -172,15 +240,48 @@ impl Requests {
         })
     }
 
-    /// Grants the bus to the competing board with the highest number, and lowers its request.
-    /// `None` where nobody competes.
+    /// The marks of the served boards at a grant, before the winner gets one: where no board waits
+    /// to be served, all are cleared.
+    fn marks_at_grant(&self) -> [bool; 16]
+        ensures { result ≡ marks_at_grant self.now }
+    {
+        if self.does_any_wait() {
+            return self.served;
+        }
+        [false; 16]
+    }
+
+    /// Marks a winner as served, if arbitration is fair.
+    fn mark(&mut self, winner: BoardNo)
+        requires { IsBoard self.old winner }
+        ensures { self.new ≡ with_mark self.old winner }
+    {
+        if !self.fair {
+            return;
+        }
+        let mut served = self.marks_at_grant();
+        served[winner.0 as usize - 1] = true;
+        self.served = served;
+    }
+
+    /// The bus is given to a winner: its request is lowered, and it is marked as served if
+    /// arbitration is fair.
+    pub fn give(&mut self, winner: BoardNo)
+        requires { IsBoard self.old winner }
+        ensures { self.new ≡ won_by self.old winner }
+    {
+        self.mark(winner);
+        self.lower(winner);
+    }
+
+    /// Grants the bus to the competing board with the highest number, lowers its request, and marks
+    /// it as served if arbitration is fair. `None` where nobody competes.
     pub fn grant(&mut self) -> Option<Grant>
         ensures none { IsNone result ↔ (competitors self.old ≡ []) }
         ensures same { IfNone result (self.new ≡ self.old) }
-        ensures lowered { IfSome result
-            (λ grant. self.new ≡ with_request self.old grant.winner false) }
+        ensures won { IfSome result (λ grant. self.new ≡ won_by self.old grant.winner) }
         ensures board { IfSome result (λ grant. IsBoard self.old grant.winner) }
-        ensures raised { IfSome result (λ grant. has_raised self.old grant.winner ≡ true) }
+        ensures competes { IfSome result (λ grant. does_compete self.old grant.winner ≡ true) }
         ensures highest { IfSome result
             (λ grant. number_at self.old grant.winner ≡ highest (competitors self.old)) }
         ensures first { IfSome result
@@ -195,7 +296,7 @@ impl Requests {
         let Some(grant) = self.contest() else {
             return None;
         };
-        self.lower(grant.winner);
+        self.give(grant.winner);
         Some(grant)
     }
 }

@@ -84,14 +84,11 @@ words_seen :
     (setup : Setup) (c : Configuration) (parts : Parts) → PartsShow setup c parts → (master line : ℕ) (source : Source)
     → source_words (seen parts.rack parts.memory) master line source ≡ source_words c master line source
 words_seen setup c parts shows master line Nobody =
-    λ i.
-    source_words (record { memory = []; rows = shows.rack.rows i; boards = []; phase = c.phase }) master line Nobody
+    λ i. source_words (record c { rows = shows.rack.rows i }) master line Nobody
 words_seen setup c parts shows master line Memory =
-    λ i. source_words (record { memory = shows.memory i; rows = []; boards = []; phase = c.phase }) master line Memory
+    λ i. source_words (record c { memory = shows.memory i }) master line Memory
 words_seen setup c parts shows master line (Board board) =
-    λ i.
-    source_words (record { memory = []; rows = shows.rack.rows i; boards = []; phase = c.phase }) master line
-    (Board board)
+    λ i. source_words (record c { rows = shows.rack.rows i }) master line (Board board)
 
 -- The data phase that the transaction must have, by the parts.
 carried_seen :

@@ -72,7 +72,7 @@ rack-room :
     → can_fill (setup_of p.rack) p.rack.rows b l ≡ can_fill setup c.rows b l
 rack-room setup c p b l s =
     let bare : List BoardSpec → Setup =
-    λ specs. record { memory = []; tables = p.rack.tables; boards = specs; scripts = [] } in
+    λ specs. record { memory = []; fair = false; tables = p.rack.tables; boards = specs; scripts = [] } in
     ap (λ (specs : List BoardSpec). can_fill (bare specs) p.rack.rows b l) s.boards
     ∙ ap (λ (rows : List Row). can_fill setup rows b l) s.rack.rows
 

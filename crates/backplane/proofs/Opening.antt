@@ -1,5 +1,5 @@
 -- The machine at its opening.
-use Rattle.std.proofs.Common.{◌≡◌, ℕ, zero, suc, ◌+◌, ◌-◌, ◌<◌, ◌≤◌, false, List, [], ◌∷◌, ◌++◌, map, length, take, get_or, refl, ap, sym, subst, ◌∙◌, arith}
+use Rattle.std.proofs.Common.{◌≡◌, ℕ, zero, suc, ◌+◌, ◌-◌, ◌<◌, ◌≤◌, Bool, true, false, cond, List, [], ◌∷◌, ◌++◌, map, length, take, get_or, refl, ap, sym, subst, ◌∙◌, arith}
 use Rattle.std.specs.Prelude.{All, replicate, slice_index_or}
 use Rattle.std.specs.List.{AllByRecursion}
 use Rattle.std.proofs.lemmas.List.{take_more, take_all}
@@ -8,7 +8,7 @@ use Rattle.class_relation.specs.Tables.{Table, empty_table}
 use Rattle.table_check.specs.Accepted.{InClass, faults}
 use Rattle.bus_model.specs.Places.{places_from}
 use Rattle.bus_model.specs.Setup.{Setup, BoardSpec, BoardFits, WellFormed, AllInClass, line_count}
-use Rattle.bus_model.specs.Configuration.{Progress, fresh, opening, lines_of_words}
+use Rattle.bus_model.specs.Configuration.{Progress, Fair, ByNumber, fresh, opening, opening_arbitration, lines_of_words}
 use Rattle.bus_model.specs.Entries.{Entry, entries_of}
 use Rattle.arbiter.specs.Contests.{IsContest, IsNumber}
 use Rattle.arbiter.specs.Raised.{Requests, nobody_raised}
@@ -22,7 +22,7 @@ use Rattle.backplane.specs.declared.phase.Phase.TheVariants.{Idle as IdlePhase}
 use Rattle.backplane.specs.Assembling.{FirstRefused, IsRefused, RefusedAt, script_lengths, table_at}
 use Rattle.backplane.specs.Histories.{Histories, HistoriesKeep, empty_histories}
 use Rattle.backplane.specs.Needs.{needed}
-use Rattle.backplane.specs.Parts.{PartsShow, MarksFit}
+use Rattle.backplane.specs.Parts.{PartsShow, MarksFit, ServedFit, ArbitrationShows}
 use Rattle.backplane.specs.Standing.{Stands}
 
 pub all-recursion : {X : Type 0} (P : X → Type 0) (xs : List X) → All P xs → AllByRecursion P xs
@@ -189,14 +189,34 @@ places-from-fresh :
 places-from-fresh [] = refl
 places-from-fresh (spec ∷ specs) = ap (λ (ns : List ℕ). 0 ∷ ns) (places-from-fresh specs)
 
+served-from :
+    (specs : List BoardSpec) (n : ℕ) → length specs ≤ n
+    → ServedFit (map (λ (spec : BoardSpec). false) specs) (replicate n false)
+served-from [] n l = tt
+served-from (spec ∷ specs) zero l = absurd (omega arith)
+served-from (spec ∷ specs) (suc n) l = (refl, served-from specs n (omega arith))
+
+opening-shown :
+    (setup : Setup) (numbers : List ℕ) (fair : Bool) → fair ≡ setup.fair → length setup.boards ≤ 16
+    → ArbitrationShows (opening_arbitration setup) (nobody_raised numbers fair)
+opening-shown setup numbers fair same few = go setup.fair same
+  where
+    go :
+        (b : Bool) → fair ≡ b
+        → ArbitrationShows (cond b (Fair (map (λ (spec : BoardSpec). false) setup.boards)) ByNumber)
+        (nobody_raised numbers fair)
+    go true e = (e, served-from setup.boards 16 few)
+    go false e = e
+
 -- The parts of a setup show its opening.
 pub parts-open :
-    (setup : Setup) (p : Parts) (tables : List Table) (words numbers : List ℕ) → WellFormed setup
+    (setup : Setup) (p : Parts) (tables : List Table) (words numbers : List ℕ) (fair : Bool) → WellFormed setup
+    → fair ≡ setup.fair
     → tables ≡ setup.tables → p.rack ≡ empty_rack tables setup.boards → words ≡ setup.memory → p.memory ≡ words
-    → numbers ≡ map (λ (spec : BoardSpec). spec.number) setup.boards → p.requests ≡ nobody_raised numbers
+    → numbers ≡ map (λ (spec : BoardSpec). spec.number) setup.boards → p.requests ≡ nobody_raised numbers fair
     → p.places.items ≡ map (λ (spec : BoardSpec). 0) setup.boards → p.phase ≡ IdlePhase
     → PartsShow setup (opening setup) p
-parts-open setup p tables words numbers well same er ew em en eq ep ei = record {
+parts-open setup p tables words numbers fair well is_fair same er ew em en eq ep ei = record {
   tables = ap (λ (r : Rack). r.tables) er ∙ same;
   boards = ap (λ (r : Rack). r.specs) er;
   rack =
@@ -207,6 +227,9 @@ parts-open setup p tables words numbers well same er ew em en eq ep ei = record 
   memory = ap lines_of_words (em ∙ ew);
   numbers = ap (λ (q : Requests). q.numbers) eq ∙ en;
   raised = rw eq (marks-from setup.boards 16 well.boards_high);
+  arbitration =
+      subst (ArbitrationShows (opening_arbitration setup)) (sym eq)
+      (opening-shown setup numbers fair is_fair well.boards_high);
   places = ep ∙ places-from-fresh setup.boards;
   phase = rw ei refl;
 }

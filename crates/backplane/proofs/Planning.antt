@@ -29,7 +29,7 @@ pub rack-victim :
     → victim (setup_of p.rack) p.rack.rows b l ≡ victim setup c.rows b l
 rack-victim setup c p b l s =
     let bare : List BoardSpec → Setup =
-    λ specs. record { memory = []; tables = p.rack.tables; boards = specs; scripts = [] } in
+    λ specs. record { memory = []; fair = false; tables = p.rack.tables; boards = specs; scripts = [] } in
     ap (λ (specs : List BoardSpec). victim (bare specs) p.rack.rows b l) s.boards
     ∙ ap (λ (rows : List Row). victim setup rows b l) s.rack.rows
 
@@ -67,7 +67,7 @@ pub decide-shown :
 decide-shown setup c p b line event access s at kind =
     let other = silently I in
     let bare : List Table → List BoardSpec → Setup =
-    λ tables specs. record { memory = []; tables = tables; boards = specs; scripts = [] } in
+    λ tables specs. record { memory = []; fair = false; tables = tables; boards = specs; scripts = [] } in
     let by : List Table → List BoardSpec → ℕ → List Row → ℕ → LocalEvent → LocalAction =
     λ tables specs n rows l e.
     pick other (choose_of (bare tables specs) b) n

@@ -1,18 +1,20 @@
 -- The parts after each change show the configuration after it.
-use Rattle.std.proofs.Common.{◌≡◌, ℕ, zero, suc, ◌≤◌, Bool, true, false, cond, List, [], ◌∷◌, map, refl, ap, sym, ◌∙◌, Option, Some, None}
-use Rattle.std.specs.Prelude.{unwrap_or, slice_get, filter_map, if◌then◌else◌, is_some}
+use Rattle.std.proofs.Common.{◌≡◌, ℕ, zero, suc, ◌-◌, ◌≤◌, Bool, true, false, cond, List, [], ◌∷◌, length, map, replicate, refl, ap, sym, subst, ◌∙◌, arith, Option, Some, None}
+use Rattle.std.specs.Prelude.{unwrap_or, slice_get, slice_set, filter_map, if◌then◌else◌, is_some}
 use Rattle.moesi_state.specs.declared.State.{State}
 use Rattle.moesi_state.specs.States.{holds}
 use Rattle.bus_model.specs.Places.{change_place}
-use Rattle.bus_model.specs.Setup.{Setup}
+use Rattle.bus_model.specs.Arbitration as bus
+use Rattle.bus_model.specs.Setup.{Setup, WellFormed}
+use Rattle.bus_model.specs.Soundness.{ArbitrationFits, PartsFit}
 use Rattle.bus_model.specs.Events.{Answer, Transaction, Carried, Done}
-use Rattle.bus_model.specs.Configuration.{Configuration, Row, Progress, fresh, progress_of, has_row, is_granted, lines_of_words, words_at}
+use Rattle.bus_model.specs.Configuration.{Configuration, Row, Progress, Arbitration, ByNumber, Fair, fresh, progress_of, has_row, is_granted, lines_of_words, words_at}
 use Rattle.bus_model.specs.Configuration as model
 use Rattle.bus_model.specs.Effects.{asking, spent, filled, completed, answered, ask, spend, complete, in_phase, without_grant, put_copy, put_memory, change_copy, change_rows, fill_copy, copy_as, with_row}
 use Rattle.bus_model.specs.Carrying.{written, answering_row, memory_words, master_words, state_of_master}
 use Rattle.bus_model.specs.Board.{access_line}
-use Rattle.bus_model.specs.Steps.{after_local, after_connect, after_data, complete_if}
-use Rattle.arbiter.specs.Raised.{Requests, with_request}
+use Rattle.bus_model.specs.Steps.{after_local, after_grant, after_connect, after_data, complete_if}
+use Rattle.arbiter.specs.Raised.{Requests, marks_at_grant, with_mark, with_request, won_by}
 use Rattle.board.specs.Rack.{Rack, Counts, counts_at, no_counts, one_more_fill, one_more_spent, rack_spent, rack_put, rack_changed, rack_filled}
 use Rattle.board.specs.Shown.{counts_from}
 use Rattle.connect_phase.specs.Answering.{rack_answered}
@@ -21,10 +23,19 @@ use Rattle.data_phase.specs.Seen.{Shows}
 use Rattle.backplane.specs.declared.phase.Phase.{Phase}
 use Rattle.backplane.specs.declared.phase.Phase.TheVariants.{Idle}
 use Rattle.backplane.specs.declared.parts.Parts.{Parts}
-use Rattle.backplane.specs.Parts.{PartsShow, MarksFit, phase_of}
+use Rattle.backplane.specs.Parts.{PartsShow, MarksFit, ServedFit, ArbitrationShows, phase_of}
 use Rattle.backplane.proofs.Changes.{map-place, kept-place, swap-place}
-use Rattle.backplane.proofs.Marks.{mark-set, mark-kept, marks-answered}
+use Rattle.backplane.proofs.Marks.{mark-set, mark-kept, marks-answered, served-set, served-cleared}
+use Rattle.backplane.proofs.Grants.{any-shown}
+use Rattle.coherence.proofs.Fairness.{data-arbitration}
 use Rattle.std.specs.Global.{Vec}
+
+-- A request says nothing of the arbitration.
+asked :
+    (requests : Requests) (b : ℕ) (raised : Bool) (a : Arbitration) → ArbitrationShows a requests
+    → ArbitrationShows a (with_request requests b raised)
+asked requests b raised ByNumber h = h
+asked requests b raised (Fair served) h = h
 
 -- A request that is raised or lowered.
 pub shown-ask :
@@ -42,9 +53,110 @@ shown-ask setup c p requests b raised low e s = record {
   memory = s.memory;
   numbers = ap (λ (r : Requests). r.numbers) e ∙ s.numbers;
   raised = rw e (mark-set raised c.boards p.requests.raised b low s.raised);
+  arbitration = rw e (asked p.requests b raised c.arbitration s.arbitration);
   places = s.places ∙ sym (kept-place (λ (q : Progress). q.place) (asking raised) (λ q. refl) c.boards b);
   phase = s.phase;
 }
+
+-- ---- a grant
+
+-- What a mark for a winner leaves as it is.
+mark-raised : (requests : Requests) (w : ℕ) → (with_mark requests w).raised ≡ requests.raised
+mark-raised requests w = go requests.fair
+  where
+    go :
+        (b : Bool)
+        → (cond b (record requests { served = slice_set (marks_at_grant requests) (w - 1) true }) requests).raised
+        ≡ requests.raised
+    go true = refl
+    go false = refl
+
+mark-fair : (requests : Requests) (w : ℕ) → (with_mark requests w).fair ≡ requests.fair
+mark-fair requests w = go requests.fair
+  where
+    go :
+        (b : Bool)
+        → (cond b (record requests { served = slice_set (marks_at_grant requests) (w - 1) true }) requests).fair
+        ≡ requests.fair
+    go true = refl
+    go false = refl
+
+mark-served :
+    (requests : Requests) (w : ℕ) → requests.fair ≡ true
+    → (with_mark requests w).served ≡ slice_set (marks_at_grant requests) (w - 1) true
+mark-served requests w fair =
+    ap (λ b. (cond b (record requests { served = slice_set (marks_at_grant requests) (w - 1) true }) requests).served)
+    fair
+
+mark-numbers : (requests : Requests) (w : ℕ) → (with_mark requests w).numbers ≡ requests.numbers
+mark-numbers requests w = go requests.fair
+  where
+    go :
+        (b : Bool)
+        → (cond b (record requests { served = slice_set (marks_at_grant requests) (w - 1) true }) requests).numbers
+        ≡ requests.numbers
+    go true = refl
+    go false = refl
+
+-- The marks at a grant.
+marks-shown :
+    (setup : Setup) (c : Configuration) (p : Parts) (served : List Bool) → PartsShow setup c p → PartsFit setup c
+    → length setup.boards ≤ 16 → ServedFit served p.requests.served → length served ≡ length setup.boards
+    → ServedFit (bus.marks_at_grant served c.boards) (marks_at_grant p.requests)
+marks-shown setup c p served s fit few h long =
+    subst (λ (w : Bool).
+    ServedFit (bus.marks_at_grant served c.boards) (cond w p.requests.served (replicate 16 false)))
+    (sym (any-shown setup c p s fit served h long)) (go (bus.does_any_wait served c.boards))
+  where
+    go :
+        (w : Bool)
+        → ServedFit (cond w served (map (λ mark. false) served)) (cond w p.requests.served (replicate 16 false))
+    go true = h
+    go false = served-cleared served 16 (omega (arith, long, few))
+
+won-shown :
+    (setup : Setup) (c : Configuration) (p : Parts) (w : ℕ) → 1 ≤ w → PartsShow setup c p → PartsFit setup c
+    → length setup.boards ≤ 16 → ArbitrationShows (bus.won_by w c.boards c.arbitration) (won_by p.requests w)
+won-shown setup c p w low s fit few = go c.arbitration s.arbitration fit.arbitration
+  where
+    go :
+        (a : Arbitration) → ArbitrationShows a p.requests → ArbitrationFits setup a
+        → ArbitrationShows (bus.won_by w c.boards a) (won_by p.requests w)
+    go ByNumber h f = mark-fair p.requests w ∙ h
+    go (Fair served) h f = (
+      mark-fair p.requests w ∙ h.0,
+      subst (ServedFit (change_place (λ mark. true) (bus.marks_at_grant served c.boards) w))
+          (sym (mark-served p.requests w h.0))
+          (served-set (bus.marks_at_grant served c.boards) (marks_at_grant p.requests) w low
+          (marks-shown setup c p served s fit few h.1 f.1)),
+    )
+
+-- The bus is granted to a board.
+pub shown-grant :
+    (setup : Setup) (c : Configuration) (p : Parts) (requests : Requests) (phase : Phase) (w : ℕ) → 1 ≤ w
+    → WellFormed setup → PartsFit setup c → requests ≡ won_by p.requests w → phase_of phase ≡ model.Granted w
+    → PartsShow setup c p → PartsShow setup (after_grant c w) (record p { requests = requests; phase = phase })
+shown-grant setup c p requests phase w low well fit e ep s = record {
+  tables = s.tables;
+  boards = s.boards;
+  rack =
+      record {
+        rows = s.rack.rows;
+        counts = s.rack.counts ∙ sym (kept-place counts_from (asking false) (λ q. refl) c.boards w);
+      };
+  memory = s.memory;
+  numbers = ap (λ (r : Requests). r.numbers) e ∙ mark-numbers p.requests w ∙ s.numbers;
+  raised =
+      subst (MarksFit (change_place (asking false) c.boards w))
+      (sym (ap (λ (r : Requests). r.raised) e
+      ∙ ap (λ (marks : List Bool). slice_set marks (w - 1) false) (mark-raised p.requests w)))
+      (mark-set false c.boards p.requests.raised w low s.raised);
+  arbitration = rw e (won-shown setup c p w low s fit well.boards_high);
+  places = s.places ∙ sym (kept-place (λ (q : Progress). q.place) (asking false) (λ q. refl) c.boards w);
+  phase = ep;
+}
+
+-- ---- other changes
 
 -- Another phase.
 pub shown-phase :
@@ -57,6 +169,7 @@ shown-phase setup c p phase next e s = record {
   memory = s.memory;
   numbers = s.numbers;
   raised = s.raised;
+  arbitration = s.arbitration;
   places = s.places;
   phase = e;
 }
@@ -77,6 +190,7 @@ shown-spend setup c p rack b e s = record {
   memory = s.memory;
   numbers = s.numbers;
   raised = mark-kept spent (λ q. refl) c.boards p.requests.raised b s.raised;
+  arbitration = s.arbitration;
   places = s.places ∙ sym (kept-place (λ (q : Progress). q.place) spent (λ q. refl) c.boards b);
   phase = s.phase;
 }
@@ -97,6 +211,7 @@ shown-complete setup c p places b e s = record {
   memory = s.memory;
   numbers = s.numbers;
   raised = mark-kept completed (λ q. refl) c.boards p.requests.raised b s.raised;
+  arbitration = s.arbitration;
   places =
       e ∙ ap (λ (ns : List ℕ). change_place suc ns b) s.places
       ∙ sym (map-place (λ (q : Progress). q.place) completed suc (λ q. refl) c.boards b);
@@ -133,6 +248,7 @@ shown-put-by true held setup c p rack b l state words e s = record {
   memory = s.memory;
   numbers = s.numbers;
   raised = s.raised;
+  arbitration = s.arbitration;
   places = s.places;
   phase = s.phase;
 }
@@ -159,6 +275,7 @@ shown-put-by false true setup c p rack b l state words e s = record {
   memory = s.memory;
   numbers = s.numbers;
   raised = mark-kept filled (λ q. refl) c.boards p.requests.raised b s.raised;
+  arbitration = s.arbitration;
   places = s.places ∙ sym (kept-place (λ (q : Progress). q.place) filled (λ q. refl) c.boards b);
   phase = s.phase;
 }
@@ -173,6 +290,7 @@ shown-put-by false false setup c p rack b l state words e s = record {
   memory = s.memory;
   numbers = s.numbers;
   raised = s.raised;
+  arbitration = s.arbitration;
   places = s.places;
   phase = s.phase;
 }
@@ -314,6 +432,7 @@ shown-connect setup c p answering next phase t ea en ep s =
       raised =
           marks-answered t.answers (change_place spent c.boards t.master) p.requests.raised
           (mark-kept spent (λ q. refl) c.boards p.requests.raised t.master s.raised);
+      arbitration = s.arbitration;
       places =
           s.places
           ∙ sym (answered-places t.answers (change_place spent c.boards t.master)
@@ -400,6 +519,8 @@ shown-data setup c p rack words places phase e et eb shows en ep s = record {
   memory = shows.memory;
   numbers = s.numbers;
   raised = data-marks-by e.done (placed c e) e.master p.requests.raised (placed-marks c e p.requests.raised s.raised);
+  arbitration =
+      subst (λ (a : Arbitration). ArbitrationShows a p.requests) (sym (data-arbitration c e)) s.arbitration;
   places =
       en
       ∙ ap (λ (ns : List ℕ). cond (is_some e.done) (change_place suc ns e.master) ns)

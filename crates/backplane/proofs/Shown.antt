@@ -1,5 +1,5 @@
 -- What the parts show of the configuration: numbers, states, words and cells.
-use Rattle.std.proofs.Common.{◌≡◌, [], ap, ℕ}
+use Rattle.std.proofs.Common.{false, ◌≡◌, [], ap, ℕ}
 use Rattle.bus_signals.specs.declared.Access.{Access}
 use Rattle.bus_model.specs.Setup.{Setup, number_of}
 use Rattle.bus_model.specs.Configuration.{Configuration, state_at, words_at}
@@ -11,7 +11,9 @@ use Rattle.backplane.specs.Parts.{PartsShow}
 module _ (setup : Setup) (c : Configuration) (parts : Parts) (shows : PartsShow setup c parts) where
   pub number_shown : (board : ℕ) → number_of (setup_of parts.rack) board ≡ number_of setup board
   number_shown board =
-      λ i. number_of (record { memory = []; tables = shows.tables i; boards = shows.boards i; scripts = [] }) board
+      λ i.
+      number_of (record { memory = []; fair = false; tables = shows.tables i; boards = shows.boards i; scripts = [] })
+      board
 
   pub state_shown : (board line : ℕ) → state_at parts.rack.rows board line ≡ state_at c.rows board line
   state_shown board line = ap (λ rows. state_at rows board line) shows.rack.rows
@@ -24,5 +26,5 @@ module _ (setup : Setup) (c : Configuration) (parts : Parts) (shows : PartsShow 
       → cell_of (setup_of parts.rack) parts.rack.rows board access ≡ cell_of setup c.rows board access
   cell_shown board access =
       λ i.
-      cell_of (record { memory = []; tables = shows.tables i; boards = shows.boards i; scripts = [] })
+      cell_of (record { memory = []; fair = false; tables = shows.tables i; boards = shows.boards i; scripts = [] })
       (shows.rack.rows i) board access

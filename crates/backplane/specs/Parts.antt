@@ -1,9 +1,10 @@
 -- The parts of the machine that change, and the configuration that they show.
-use Rattle.std.specs.Prelude.{◌≡◌, ℕ, ◌*◌, ◌^◌, ◌<◌, ◌≤◌, Bool, List, [], ◌∷◌, Option, Some, None, IsTrue, IsFalse, map, length}
+use Rattle.std.specs.Prelude.{◌≡◌, ℕ, ◌*◌, ◌^◌, ◌<◌, ◌≤◌, Bool, true, false, List, [], ◌∷◌, Option, Some, None, IsTrue, IsFalse, map, length}
 use Rattle.moesi_state.specs.States.{holds}
 use Rattle.bus_model.specs.Setup.{Setup, BoardSpec}
 use Rattle.bus_model.specs.Events.{Transaction}
-use Rattle.bus_model.specs.Configuration.{Configuration, Progress, lines_of_words, has_row}
+use Rattle.bus_model.specs.Configuration.{Configuration, Progress, Arbitration, ByNumber, Fair, lines_of_words, has_row}
+use Rattle.arbiter.specs.Raised.{Requests}
 use Rattle.bus_model.specs.Configuration as model
 use Rattle.bus_model.specs.Carrying.{master_state}
 use Rattle.board.specs.Rack.{CountsFit, can_fill, setup_of}
@@ -25,9 +26,21 @@ MarksFit [] marks = Unit {0}
 MarksFit (p ∷ boards) [] = ⊥
 MarksFit (p ∷ boards) (mark ∷ marks) = (mark ≡ p.raised) × MarksFit boards marks
 
+-- The first of these marks are those of the boards that were served.
+abbrev pub ServedFit : List Bool → List Bool → Type 0
+ServedFit [] marks = Unit {0}
+ServedFit (s ∷ served) [] = ⊥
+ServedFit (s ∷ served) (mark ∷ marks) = (mark ≡ s) × ServedFit served marks
+
+-- The arbiter arbitrates as the configuration says, and marks the boards that were served there.
+abbrev pub ArbitrationShows : Arbitration → Requests → Type 0
+ArbitrationShows ByNumber requests = requests.fair ≡ false
+ArbitrationShows (Fair served) requests =
+    (requests.fair ≡ true) × ServedFit served requests.served
+
 -- The parts are of a setup and show a configuration: the rack has its tables, boards, rows and
--- counts, memory its words, the arbiter its numbers and requests, and the rest its places and its
--- phase.
+-- counts, memory its words, the arbiter its numbers, requests and marks, and the rest its places
+-- and its phase.
 pub record PartsShow (setup : Setup) (c : Configuration) (parts : Parts) : Type 0 where
   pub tables : parts.rack.tables ≡ setup.tables
   pub boards : parts.rack.specs ≡ setup.boards
@@ -35,6 +48,7 @@ pub record PartsShow (setup : Setup) (c : Configuration) (parts : Parts) : Type 
   pub memory : lines_of_words parts.memory ≡ c.memory
   pub numbers : parts.requests.numbers ≡ map (λ (spec : BoardSpec). spec.number) setup.boards
   pub raised : MarksFit c.boards parts.requests.raised
+  pub arbitration : ArbitrationShows c.arbitration parts.requests
   pub places : parts.places.items ≡ map (λ (p : Progress). p.place) c.boards
   pub phase : phase_of parts.phase ≡ c.phase
 

@@ -12,7 +12,7 @@ use Rattle.bus_model.specs.Soundness.{Sound}
 use Rattle.bus_model.specs.Settling.{highest, settled_lines, settled_rounds}
 use Rattle.backplane.specs.declared.parts.Parts.{Parts}
 use Rattle.backplane.specs.Parts.{PartsShow, IsPartOf}
-use Rattle.arbiter.specs.Raised.{has_raised}
+use Rattle.arbiter.specs.Raised.{has_raised, does_compete}
 use Rattle.board.specs.Rack.{Rack, setup_of}
 use Rattle.connect_phase.specs.Answering.{is_other_holder}
 
@@ -76,6 +76,11 @@ does_settle [] number lines rounds = false
 does_settle (n ∷ rest) number lines rounds =
     let numbers = n ∷ rest in
     number == highest numbers && lines == settled_lines numbers && rounds == settled_rounds numbers
+
+-- A board is one of the machine's, and competes for the bus.
+pub record Competes (parts : Parts) (board : ℕ) : Type 0 where
+  pub there : IsPartOf parts board
+  pub competes : IsTrue (does_compete parts.requests board)
 
 -- A board is one of the machine's, and has raised a request.
 pub record HasRaised (parts : Parts) (board : ℕ) : Type 0 where

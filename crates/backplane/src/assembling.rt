@@ -166,7 +166,7 @@ fn parts(alloc: Global, setup: &Setup, tables: Vec<Accepted>) -> Result<Parts, N
     Ok(Parts {
         rack,
         memory: MemoryBoard::new(words),
-        requests: Requests::new(numbers),
+        requests: Requests::new(numbers, setup.fair()),
         phase: Phase::Idle,
         places,
     })

@@ -3,7 +3,7 @@
 ghost use Rattle.std.specs.Prelude.{◌≡◌, ◌≤◌, if◌then◌else◌, ℕ, suc, List, Bool, Some, IsTrue, IsFalse, length};
 ghost use Rattle.moesi_state.specs.declared.State.{State};
 ghost use Rattle.moesi_state.specs.States.{holds};
-ghost use Rattle.bus_model.specs.Setup.{Setup};
+ghost use Rattle.bus_model.specs.Setup.{Setup, WellFormed};
 ghost use Rattle.bus_model.specs.Configuration.{Configuration, has_row};
 ghost use Rattle.bus_model.specs.Configuration as model;
 ghost use Rattle.bus_model.specs.Board.{access_line};
@@ -11,7 +11,8 @@ ghost use Rattle.bus_model.specs.Places.{at_place, change_place};
 ghost use Rattle.bus_model.specs.Carrying.{done_of};
 ghost use Rattle.bus_model.specs.Turns.{transaction_of};
 ghost use Rattle.bus_model.specs.Effects.{ask, in_phase, drop_copy};
-ghost use Rattle.bus_model.specs.Steps.{after_local, after_connect, after_data};
+ghost use Rattle.bus_model.specs.Steps.{after_local, after_grant, after_connect, after_data};
+ghost use Rattle.bus_model.specs.Soundness.{PartsFit};
 ghost use Rattle.board.specs.Rack.{can_fill, setup_of};
 ghost use Rattle.data_phase.specs.Seen.{carried_for};
 ghost use Rattle.connect_phase.specs.Answering.{AllAreBoards};
@@ -89,13 +90,14 @@ impl Parts {
         self.requests.raise(board);
     }
 
-    /// The bus is granted to a board, and its request is lowered.
+    /// The bus is granted to a board: its request is lowered, and it is marked as served if
+    /// arbitration is fair.
     pub fn grant(&mut self, winner: BoardNo)
         requires { IsPartOf self.old winner }
-        ensures { (setup : Setup) (c : Configuration) → PartsShow setup c self.old
-            → PartsShow setup (in_phase (model.Granted winner) (ask Bool.false c winner)) self.new }
+        ensures { (setup : Setup) (c : Configuration) → WellFormed setup → PartsFit setup c
+            → PartsShow setup c self.old → PartsShow setup (after_grant c winner) self.new }
     {
-        self.requests.lower(winner);
+        self.requests.give(winner);
         self.phase = Phase::Granted(winner);
     }
 

@@ -24,7 +24,7 @@ clean_victim_plays =
           record {
             idle = refl;
             by_raised = refl;
-            wins = record { raised = refl; number_highest = refl; lines_settled = refl; rounds_settled = refl };
+            wins = record { competes = refl; number_highest = refl; lines_settled = refl; rounds_settled = refl };
           },
           (
             (
@@ -79,7 +79,7 @@ clean_victim_plays =
                       idle = refl;
                       by_raised = refl;
                       wins =
-                          record { raised = refl; number_highest = refl; lines_settled = refl; rounds_settled = refl };
+                          record { competes = refl; number_highest = refl; lines_settled = refl; rounds_settled = refl };
                     },
                     (
                       (
@@ -131,7 +131,7 @@ clean_victim_plays =
                                 idle = refl;
                                 by_raised = refl;
                                 wins = record {
-                                  raised = refl;
+                                  competes = refl;
                                   number_highest = refl;
                                   lines_settled = refl;
                                   rounds_settled = refl;
@@ -195,7 +195,7 @@ captured_plays =
           record {
             idle = refl;
             by_raised = refl;
-            wins = record { raised = refl; number_highest = refl; lines_settled = refl; rounds_settled = refl };
+            wins = record { competes = refl; number_highest = refl; lines_settled = refl; rounds_settled = refl };
           },
           (
             (
@@ -232,7 +232,7 @@ captured_plays =
                     idle = refl;
                     by_raised = refl;
                     wins =
-                        record { raised = refl; number_highest = refl; lines_settled = refl; rounds_settled = refl };
+                        record { competes = refl; number_highest = refl; lines_settled = refl; rounds_settled = refl };
                   },
                   (
                     (
@@ -275,7 +275,7 @@ captured_plays =
                             idle = refl;
                             by_raised = refl;
                             wins = record {
-                              raised = refl;
+                              competes = refl;
                               number_highest = refl;
                               lines_settled = refl;
                               rounds_settled = refl;
@@ -323,7 +323,7 @@ captured_plays =
                                     idle = refl;
                                     by_raised = refl;
                                     wins = record {
-                                      raised = refl;
+                                      competes = refl;
                                       number_highest = refl;
                                       lines_settled = refl;
                                       rounds_settled = refl;
@@ -370,7 +370,7 @@ captured_plays =
                                             idle = refl;
                                             by_raised = refl;
                                             wins = record {
-                                              raised = refl;
+                                              competes = refl;
                                               number_highest = refl;
                                               lines_settled = refl;
                                               rounds_settled = refl;

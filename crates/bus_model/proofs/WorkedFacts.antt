@@ -51,7 +51,7 @@ highest_wins =
     record {
       idle = refl;
       by_raised = refl;
-      wins = record { raised = refl; number_highest = refl; lines_settled = refl; rounds_settled = refl };
+      wins = record { competes = refl; number_highest = refl; lines_settled = refl; rounds_settled = refl };
     }
 
 pub no_grant_to_another : (lines rounds : ℕ) → Can given_up both_raised (Grant 3 3 lines rounds) → ⊥

@@ -28,7 +28,7 @@ write_through_word_plays =
           record {
             idle = refl;
             by_raised = refl;
-            wins = record { raised = refl; number_highest = refl; lines_settled = refl; rounds_settled = refl };
+            wins = record { competes = refl; number_highest = refl; lines_settled = refl; rounds_settled = refl };
           },
           (
             (
@@ -65,7 +65,7 @@ write_through_word_plays =
                     idle = refl;
                     by_raised = refl;
                     wins =
-                        record { raised = refl; number_highest = refl; lines_settled = refl; rounds_settled = refl };
+                        record { competes = refl; number_highest = refl; lines_settled = refl; rounds_settled = refl };
                   },
                   (
                     (
@@ -108,7 +108,7 @@ write_through_word_plays =
                             idle = refl;
                             by_raised = refl;
                             wins = record {
-                              raised = refl;
+                              competes = refl;
                               number_highest = refl;
                               lines_settled = refl;
                               rounds_settled = refl;
@@ -156,7 +156,7 @@ write_through_word_plays =
                                     idle = refl;
                                     by_raised = refl;
                                     wins = record {
-                                      raised = refl;
+                                      competes = refl;
                                       number_highest = refl;
                                       lines_settled = refl;
                                       rounds_settled = refl;
@@ -224,7 +224,7 @@ victim_flush_plays =
           record {
             idle = refl;
             by_raised = refl;
-            wins = record { raised = refl; number_highest = refl; lines_settled = refl; rounds_settled = refl };
+            wins = record { competes = refl; number_highest = refl; lines_settled = refl; rounds_settled = refl };
           },
           (
             (
@@ -261,7 +261,7 @@ victim_flush_plays =
                     idle = refl;
                     by_raised = refl;
                     wins =
-                        record { raised = refl; number_highest = refl; lines_settled = refl; rounds_settled = refl };
+                        record { competes = refl; number_highest = refl; lines_settled = refl; rounds_settled = refl };
                   },
                   (
                     (
@@ -305,7 +305,7 @@ victim_flush_plays =
                             idle = refl;
                             by_raised = refl;
                             wins = record {
-                              raised = refl;
+                              competes = refl;
                               number_highest = refl;
                               lines_settled = refl;
                               rounds_settled = refl;
@@ -367,7 +367,7 @@ given_up_plays =
           record {
             idle = refl;
             by_raised = refl;
-            wins = record { raised = refl; number_highest = refl; lines_settled = refl; rounds_settled = refl };
+            wins = record { competes = refl; number_highest = refl; lines_settled = refl; rounds_settled = refl };
           },
           (
             (
@@ -404,7 +404,7 @@ given_up_plays =
                     idle = refl;
                     by_raised = refl;
                     wins =
-                        record { raised = refl; number_highest = refl; lines_settled = refl; rounds_settled = refl };
+                        record { competes = refl; number_highest = refl; lines_settled = refl; rounds_settled = refl };
                   },
                   (
                     (
@@ -447,7 +447,7 @@ given_up_plays =
                             idle = refl;
                             by_raised = refl;
                             wins = record {
-                              raised = refl;
+                              competes = refl;
                               number_highest = refl;
                               lines_settled = refl;
                               rounds_settled = refl;
@@ -506,7 +506,7 @@ given_up_plays =
                                       idle = refl;
                                       by_raised = refl;
                                       wins = record {
-                                        raised = refl;
+                                        competes = refl;
                                         number_highest = refl;
                                         lines_settled = refl;
                                         rounds_settled = refl;
@@ -526,7 +526,7 @@ given_up_plays =
                                           idle = refl;
                                           by_raised = refl;
                                           wins = record {
-                                            raised = refl;
+                                            competes = refl;
                                             number_highest = refl;
                                             lines_settled = refl;
                                             rounds_settled = refl;
@@ -596,7 +596,7 @@ alternation_plays =
           record {
             idle = refl;
             by_raised = refl;
-            wins = record { raised = refl; number_highest = refl; lines_settled = refl; rounds_settled = refl };
+            wins = record { competes = refl; number_highest = refl; lines_settled = refl; rounds_settled = refl };
           },
           (
             (
@@ -633,7 +633,7 @@ alternation_plays =
                     idle = refl;
                     by_raised = refl;
                     wins =
-                        record { raised = refl; number_highest = refl; lines_settled = refl; rounds_settled = refl };
+                        record { competes = refl; number_highest = refl; lines_settled = refl; rounds_settled = refl };
                   },
                   (
                     (

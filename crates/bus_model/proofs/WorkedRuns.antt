@@ -29,7 +29,7 @@ intervention_plays =
           record {
             idle = refl;
             by_raised = refl;
-            wins = record { raised = refl; number_highest = refl; lines_settled = refl; rounds_settled = refl };
+            wins = record { competes = refl; number_highest = refl; lines_settled = refl; rounds_settled = refl };
           },
           (
             (
@@ -66,7 +66,7 @@ intervention_plays =
                     idle = refl;
                     by_raised = refl;
                     wins =
-                        record { raised = refl; number_highest = refl; lines_settled = refl; rounds_settled = refl };
+                        record { competes = refl; number_highest = refl; lines_settled = refl; rounds_settled = refl };
                   },
                   (
                     (
@@ -120,7 +120,7 @@ broadcast_plays =
           record {
             idle = refl;
             by_raised = refl;
-            wins = record { raised = refl; number_highest = refl; lines_settled = refl; rounds_settled = refl };
+            wins = record { competes = refl; number_highest = refl; lines_settled = refl; rounds_settled = refl };
           },
           (
             (
@@ -157,7 +157,7 @@ broadcast_plays =
                     idle = refl;
                     by_raised = refl;
                     wins =
-                        record { raised = refl; number_highest = refl; lines_settled = refl; rounds_settled = refl };
+                        record { competes = refl; number_highest = refl; lines_settled = refl; rounds_settled = refl };
                   },
                   (
                     (
@@ -200,7 +200,7 @@ broadcast_plays =
                             idle = refl;
                             by_raised = refl;
                             wins = record {
-                              raised = refl;
+                              competes = refl;
                               number_highest = refl;
                               lines_settled = refl;
                               rounds_settled = refl;
@@ -247,7 +247,7 @@ broadcast_plays =
                                     idle = refl;
                                     by_raised = refl;
                                     wins = record {
-                                      raised = refl;
+                                      competes = refl;
                                       number_highest = refl;
                                       lines_settled = refl;
                                       rounds_settled = refl;
@@ -312,7 +312,7 @@ no_hit_plays =
           record {
             idle = refl;
             by_raised = refl;
-            wins = record { raised = refl; number_highest = refl; lines_settled = refl; rounds_settled = refl };
+            wins = record { competes = refl; number_highest = refl; lines_settled = refl; rounds_settled = refl };
           },
           (
             (
@@ -349,7 +349,7 @@ no_hit_plays =
                     idle = refl;
                     by_raised = refl;
                     wins =
-                        record { raised = refl; number_highest = refl; lines_settled = refl; rounds_settled = refl };
+                        record { competes = refl; number_highest = refl; lines_settled = refl; rounds_settled = refl };
                   },
                   (
                     (
@@ -392,7 +392,7 @@ no_hit_plays =
                             idle = refl;
                             by_raised = refl;
                             wins = record {
-                              raised = refl;
+                              competes = refl;
                               number_highest = refl;
                               lines_settled = refl;
                               rounds_settled = refl;
@@ -451,7 +451,7 @@ gap_plays =
           record {
             idle = refl;
             by_raised = refl;
-            wins = record { raised = refl; number_highest = refl; lines_settled = refl; rounds_settled = refl };
+            wins = record { competes = refl; number_highest = refl; lines_settled = refl; rounds_settled = refl };
           },
           (
             (
@@ -488,7 +488,7 @@ gap_plays =
                     idle = refl;
                     by_raised = refl;
                     wins =
-                        record { raised = refl; number_highest = refl; lines_settled = refl; rounds_settled = refl };
+                        record { competes = refl; number_highest = refl; lines_settled = refl; rounds_settled = refl };
                   },
                   (
                     (
@@ -531,7 +531,7 @@ gap_plays =
                             idle = refl;
                             by_raised = refl;
                             wins = record {
-                              raised = refl;
+                              competes = refl;
                               number_highest = refl;
                               lines_settled = refl;
                               rounds_settled = refl;
@@ -590,7 +590,7 @@ quiet_read_plays =
           record {
             idle = refl;
             by_raised = refl;
-            wins = record { raised = refl; number_highest = refl; lines_settled = refl; rounds_settled = refl };
+            wins = record { competes = refl; number_highest = refl; lines_settled = refl; rounds_settled = refl };
           },
           (
             (
@@ -627,7 +627,7 @@ quiet_read_plays =
                     idle = refl;
                     by_raised = refl;
                     wins =
-                        record { raised = refl; number_highest = refl; lines_settled = refl; rounds_settled = refl };
+                        record { competes = refl; number_highest = refl; lines_settled = refl; rounds_settled = refl };
                   },
                   (
                     (

@@ -18,6 +18,7 @@ use Rattle.bus_model.specs.Setup.{Setup, BoardSpec, Shape, Plain, Cached, ShapeF
 use Rattle.bus_model.specs.WorkedRuns.{intervention, broadcast, no_hit, gap, quiet_read}
 use Rattle.bus_model.specs.WorkedRoom.{write_through_word, victim_flush, given_up, alternation}
 use Rattle.bus_model.specs.WorkedCopies.{clean_victim, captured}
+use Rattle.bus_model.specs.WorkedFair.{passed_over, starving}
 
 -- ---- tests of what a setup must be
 
@@ -100,20 +101,20 @@ shape_tested table (Cached sets ways) h =
 -- Whether a board is one that a setup may have.
 abbrev board_fits : Setup → BoardSpec → Bool
 board_fits setup spec =
-    leb 1 spec.number && (leb spec.number 255 && (ltb spec.table (length setup.tables)
+    leb 1 spec.number && (leb spec.number 1023 && (ltb spec.table (length setup.tables)
     && shape_fits (slice_index_or setup.tables spec.table (empty_table [])) spec.shape))
 
 board_tested : (setup : Setup) (spec : BoardSpec) → board_fits setup spec ≡ true → BoardFits setup spec
 board_tested setup spec h =
     let table = slice_index_or setup.tables spec.table (empty_table []) in
     let low = both_true (leb 1 spec.number)
-    (leb spec.number 255 && (ltb spec.table (length setup.tables) && shape_fits table spec.shape)) h in
+    (leb spec.number 1023 && (ltb spec.table (length setup.tables) && shape_fits table spec.shape)) h in
     let high =
-    both_true (leb spec.number 255) (ltb spec.table (length setup.tables) && shape_fits table spec.shape) low.1 in
+    both_true (leb spec.number 1023) (ltb spec.table (length setup.tables) && shape_fits table spec.shape) low.1 in
     let rest = both_true (ltb spec.table (length setup.tables)) (shape_fits table spec.shape) high.1 in
     record {
       number_low = leb-true 1 spec.number low.0;
-      number_high = leb-true spec.number 255 high.0;
+      number_high = leb-true spec.number 1023 high.0;
       table = ltb-true spec.table (length setup.tables) rest.0;
       shape = shape_tested table spec.shape rest.1;
     }
@@ -253,3 +254,19 @@ captured_fits = well_formed captured refl refl refl refl refl refl refl refl ref
 pub captured_accepted : AllInClass captured
 unfolding faults reached_within
 captured_accepted = All-from_recursion InClass captured.tables (refl, (refl, (refl, tt)))
+
+pub passed_over_fits : WellFormed passed_over
+unfolding reached_within
+passed_over_fits = well_formed passed_over refl refl refl refl refl refl refl refl refl refl refl refl refl
+
+pub passed_over_accepted : AllInClass passed_over
+unfolding faults reached_within
+passed_over_accepted = All-from_recursion InClass passed_over.tables (refl, tt)
+
+pub starving_fits : WellFormed starving
+unfolding reached_within
+starving_fits = well_formed starving refl refl refl refl refl refl refl refl refl refl refl refl refl
+
+pub starving_accepted : AllInClass starving
+unfolding faults reached_within
+starving_accepted = All-from_recursion InClass starving.tables (refl, tt)

@@ -3,7 +3,7 @@ use Rattle.std.specs.Prelude.{◌≡◌, ◌≢◌, ℕ, zero, suc, ◌*◌, ◌
 
 -- The bits of an arbitration number.
 abbrev pub number_bits : ℕ
-number_bits = 8
+number_bits = 10
 
 -- What is on the lines while these boards drive these values: each line is wired-or.
 abbrev pub wired_lines : List ℕ → ℕ

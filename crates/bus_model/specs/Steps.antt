@@ -9,12 +9,13 @@ use Rattle.moesi_state.specs.declared.Outcome.TheVariants.{Fixed}
 use Rattle.moesi_state.specs.States.{owns, same_state}
 use Rattle.moesi_state.specs.Outcomes.{is_invalid}
 use Rattle.class_relation.specs.Actions.{has_local, silently}
+use Rattle.bus_model.specs.Places.{change_place}
 use Rattle.bus_model.specs.Setup.{Setup}
 use Rattle.bus_model.specs.Events.{Event, Local, Drop, Raise, Grant, Connect, DataPhase, Done, Transaction, Carried}
 use Rattle.bus_model.specs.Configuration.{Row, Configuration, Idle, Granted, Connected, state_at, words_at, present_access, is_raised, is_granted, is_connected, is_held}
 use Rattle.bus_model.specs.Board.{access_line, cell_of, needs_bus, wants_row, is_full, victim, is_clean}
-use Rattle.bus_model.specs.Effects.{complete, spend, ask, answered, in_phase, without_grant, change_rows, put_copy, drop_copy, put_memory}
-use Rattle.bus_model.specs.Arbitration.{Wins}
+use Rattle.bus_model.specs.Effects.{complete, spend, asking, ask, answered, in_phase, without_grant, change_rows, put_copy, drop_copy, put_memory}
+use Rattle.bus_model.specs.Arbitration.{Wins, won_by}
 use Rattle.bus_model.specs.Connecting.{other_holders, AnswersFit}
 use Rattle.bus_model.specs.Carrying.{source_of, takers_of, states_of, source_words, written, reply_of, done_of, master_words, memory_words, answering_row, state_of_master}
 
@@ -59,7 +60,7 @@ pub record CanRaise (setup : Setup) (c : Configuration) (board : ℕ) (access : 
 pub record CanGrant (setup : Setup) (c : Configuration) (by winner lines rounds : ℕ) : Type 0 where
   pub idle : c.phase ≡ Idle
   pub by_raised : IsTrue (is_raised c.boards by)
-  pub wins : Wins setup c.boards winner lines rounds
+  pub wins : Wins setup c.arbitration c.boards winner lines rounds
 
 -- A transaction serves the master's access: it is an alternative of the master's cell, and there is
 -- room for the row that it may bring.
@@ -127,11 +128,17 @@ after_local c board state done =
     let moved = put_copy c board line state (written done.access (words_at c.rows board line)) in
     in_phase (without_grant c.phase board) (ask false (spend (complete moved board) board) board)
 
+-- The configuration after the bus was granted to a board.
+abbrev pub after_grant : Configuration → ℕ → Configuration
+after_grant c winner = record c {
+  boards = change_place (asking false) c.boards winner;
+  phase = Granted winner;
+  arbitration = won_by winner c.boards c.arbitration;
+}
+
 -- The configuration after a transaction was connected.
 abbrev pub after_connect : Configuration → Transaction → Configuration
-after_connect c t = record {
-  memory = c.memory;
-  rows = c.rows;
+after_connect c t = record c {
   boards = answered (spend c t.master).boards t.answers;
   phase = Connected t;
 }
@@ -154,7 +161,7 @@ abbrev pub after : Configuration → Event → Configuration
 after c (Local board before state done) = after_local c board state done
 after c (Drop board line before) = drop_copy c board line
 after c (Raise board) = ask true c board
-after c (Grant by winner lines rounds) = in_phase (Granted winner) (ask false c winner)
+after c (Grant by winner lines rounds) = after_grant c winner
 after c (Connect t) = after_connect c t
 after c (DataPhase e) = after_data c e
 

@@ -32,8 +32,9 @@ local_turn setup c board access state =
 -- The grant of a turn (case 7).
 abbrev pub grant_turn : Setup → Configuration → ℕ → Turn
 grant_turn setup c board =
-    let numbers = competing_numbers setup c.boards in
-    Did (Grant board (winner_of setup c.boards) (settled_lines numbers) (settled_rounds numbers))
+    let numbers = competing_numbers setup c.arbitration c.boards in
+    let winner = winner_of setup c.arbitration c.boards in
+    Did (Grant board winner (settled_lines numbers) (settled_rounds numbers))
 
 -- A turn of a board that has no grant and needs the bus: it raises a request (case 6), with a
 -- request raised it grants the bus where the bus is idle (case 7), and else it waits (case 8).

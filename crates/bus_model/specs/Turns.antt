@@ -107,9 +107,9 @@ by_bus setup c board line event outcome =
           elim c.phase [
             -- 7. The bus is idle: whoever wins gets it.
             | Idle ↦
-                let numbers = competing_numbers setup c.boards in
-                Did (Grant board (winner_of setup c.boards) (settled_lines numbers)
-                (settled_rounds numbers))
+                let numbers = competing_numbers setup c.arbitration c.boards in
+                let winner = winner_of setup c.arbitration c.boards in
+                Did (Grant board winner (settled_lines numbers) (settled_rounds numbers))
             -- 8. Another board has the bus.
             | Granted b ↦ Waits (BusTaken b)
             | Connected t ↦ Waits (BusTaken t.master)

@@ -10,7 +10,7 @@ use Rattle.class_relation.specs.Tables.{Table}
 use Rattle.table_check.specs.KnownTables.{uncached, copy_back, copy_back_locals, copy_back_answers}
 use Rattle.bus_model.specs.Setup.{Setup}
 use Rattle.bus_model.specs.Events.{Event, Local, Drop, Raise, Grant, Connect, Nobody, Memory, Board}
-use Rattle.bus_model.specs.Configuration.{Configuration, Idle}
+use Rattle.bus_model.specs.Configuration.{Configuration, ByNumber, Idle}
 use Rattle.bus_model.specs.Carrying.{no_takers, with_memory}
 use Rattle.bus_model.specs.WorkedWords.{read, write, pass, cached_board, plain_board, connection, says, data_of, did, copy, progress}
 
@@ -38,6 +38,7 @@ broadcasting =
 abbrev pub clean_victim : Setup
 clean_victim = record {
   memory = 1 ∷ 0 ∷ 0 ∷ 0 ∷ 2 ∷ 0 ∷ 0 ∷ 0 ∷ [];
+  fair = false;
   tables = copy_back ∷ [];
   boards = cached_board 10 0 1 ∷ [];
   scripts = (read 0 ∷ read 4 ∷ write 5 9 ∷ pass 4 ∷ []) ∷ [];
@@ -70,6 +71,7 @@ clean_victim_end = record {
   rows = copy 1 1 E (2 ∷ 9 ∷ 0 ∷ 0 ∷ []) 1 ∷ [];
   boards = progress 4 2 4 ∷ [];
   phase = Idle;
+  arbitration = ByNumber;
 }
 
 -- Two holders capture the word that an uncached board broadcasts. The sharer then broadcasts a word
@@ -77,6 +79,7 @@ clean_victim_end = record {
 abbrev pub captured : Setup
 captured = record {
   memory = 0 ∷ 0 ∷ 0 ∷ 0 ∷ [];
+  fair = false;
   tables = copy_back ∷ fixed_owner ∷ broadcasting ∷ [];
   boards = cached_board 10 0 1 ∷ cached_board 9 1 1 ∷ plain_board 7 2 ∷ [];
   scripts = (write 0 5 ∷ []) ∷ (read 0 ∷ write 2 9 ∷ write 0 6 ∷ []) ∷ (write 1 8 ∷ []) ∷ [];
@@ -119,4 +122,5 @@ captured_end = record {
   rows = copy 2 0 M (6 ∷ 8 ∷ 9 ∷ 0 ∷ []) 0 ∷ [];
   boards = progress 1 1 5 ∷ progress 3 1 4 ∷ progress 1 0 1 ∷ [];
   phase = Idle;
+  arbitration = ByNumber;
 }

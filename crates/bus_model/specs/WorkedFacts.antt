@@ -26,13 +26,7 @@ quiet_read_entries =
 
 -- The end of the intervention, except that the owner has lost its copy.
 abbrev pub lost_copy : Configuration
-lost_copy =
-    record {
-      memory = intervention_end.memory;
-      rows = [];
-      boards = intervention_end.boards;
-      phase = intervention_end.phase;
-    }
+lost_copy = record intervention_end { rows = [] }
 
 -- The intervention halfway: the write is done, and the read has not begun.
 abbrev pub halfway : Configuration
@@ -40,13 +34,7 @@ halfway = after_all (opening intervention) (take 4 intervention_events)
 
 -- The end of the intervention, except that a board has the bus.
 abbrev pub bus_taken : Configuration
-bus_taken =
-    record {
-      memory = intervention_end.memory;
-      rows = intervention_end.rows;
-      boards = intervention_end.boards;
-      phase = Granted 1;
-    }
+bus_taken = record intervention_end { phase = Granted 1 }
 
 -- The bus is idle, and boards 1 and 3, with the numbers 10 and 7, have each raised a request.
 abbrev pub both_raised : Configuration

@@ -10,7 +10,7 @@ use Rattle.class_relation.specs.Tables.{Table}
 use Rattle.table_check.specs.KnownTables.{uncached, copy_back, write_through}
 use Rattle.bus_model.specs.Setup.{Setup, Plain, Round}
 use Rattle.bus_model.specs.Events.{Event, Local, Raise, Grant, Connect, Nobody, Memory, Board}
-use Rattle.bus_model.specs.Configuration.{Configuration, Idle}
+use Rattle.bus_model.specs.Configuration.{Configuration, ByNumber, Idle}
 use Rattle.bus_model.specs.Carrying.{no_takers, with_memory}
 use Rattle.bus_model.specs.WorkedWords.{read, write, flush, cached_board, connection, says, data_of, taken_by, did, copy, progress}
 
@@ -27,6 +27,7 @@ two_writes =
 abbrev pub write_through_word : Setup
 write_through_word = record {
   memory = 0 ∷ 0 ∷ 0 ∷ 0 ∷ [];
+  fair = false;
   tables = copy_back ∷ write_through ∷ [];
   boards = cached_board 10 0 1 ∷ cached_board 9 1 1 ∷ cached_board 7 1 1 ∷ [];
   scripts = (write 0 5 ∷ []) ∷ (read 0 ∷ write 1 8 ∷ []) ∷ (read 0 ∷ []) ∷ [];
@@ -65,12 +66,14 @@ write_through_word_end = record {
   rows = copy 1 0 O (5 ∷ 8 ∷ 0 ∷ 0 ∷ []) 0 ∷ copy 2 0 S (5 ∷ 8 ∷ 0 ∷ 0 ∷ []) 0 ∷ [];
   boards = progress 1 1 4 ∷ progress 2 1 3 ∷ progress 1 1 2 ∷ [];
   phase = Idle;
+  arbitration = ByNumber;
 }
 
 -- A modified victim is flushed: the second access takes eight events.
 abbrev pub victim_flush : Setup
 victim_flush = record {
   memory = 0 ∷ 0 ∷ 0 ∷ 0 ∷ 0 ∷ 0 ∷ 0 ∷ 0 ∷ [];
+  fair = false;
   tables = copy_back ∷ [];
   boards = cached_board 3 0 1 ∷ [];
   scripts = (write 0 1 ∷ write 4 2 ∷ []) ∷ [];
@@ -101,12 +104,14 @@ victim_flush_end = record {
   rows = copy 1 1 M (2 ∷ 0 ∷ 0 ∷ 0 ∷ []) 1 ∷ [];
   boards = progress 2 2 3 ∷ [];
   phase = Idle;
+  arbitration = ByNumber;
 }
 
 -- A request and a grant are given up by an access that no longer needs the bus.
 abbrev pub given_up : Setup
 given_up = record {
   memory = 0 ∷ 0 ∷ 0 ∷ 0 ∷ 0 ∷ 0 ∷ 0 ∷ 0 ∷ [];
+  fair = false;
   tables = copy_back ∷ [];
   boards = cached_board 10 0 1 ∷ cached_board 9 0 1 ∷ cached_board 7 0 2 ∷ [];
   scripts = (write 0 5 ∷ flush 0 ∷ []) ∷ (read 0 ∷ []) ∷ (write 0 6 ∷ read 4 ∷ []) ∷ [];
@@ -146,12 +151,14 @@ given_up_end = record {
   rows = copy 3 0 M (6 ∷ 0 ∷ 0 ∷ 0 ∷ []) 0 ∷ copy 3 1 E (0 ∷ 0 ∷ 0 ∷ 0 ∷ []) 1 ∷ [];
   boards = progress 2 1 4 ∷ progress 1 1 2 ∷ progress 2 2 2 ∷ [];
   phase = Idle;
+  arbitration = ByNumber;
 }
 
 -- A board takes the two alternatives of a cell in turn.
 abbrev pub alternation : Setup
 alternation = record {
   memory = 0 ∷ 0 ∷ 0 ∷ 0 ∷ [];
+  fair = false;
   tables = two_writes ∷ [];
   boards = record { number = 5; table = 0; shape = Plain; choose = Round } ∷ [];
   scripts = (write 0 1 ∷ write 0 2 ∷ []) ∷ [];
@@ -178,4 +185,5 @@ alternation_end = record {
   rows = [];
   boards = progress 2 0 2 ∷ [];
   phase = Idle;
+  arbitration = ByNumber;
 }

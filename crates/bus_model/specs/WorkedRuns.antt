@@ -9,7 +9,7 @@ use Rattle.class_relation.specs.Tables.{Table, answer_cell}
 use Rattle.table_check.specs.KnownTables.{uncached, copy_back, copy_back_update, write_through, quiet}
 use Rattle.bus_model.specs.Setup.{Setup, WellFormed, AllInClass}
 use Rattle.bus_model.specs.Events.{Event, Local, Raise, Grant, Connect, Nobody, Memory, Board}
-use Rattle.bus_model.specs.Configuration.{Configuration, Idle, opening}
+use Rattle.bus_model.specs.Configuration.{Configuration, ByNumber, Idle, opening}
 use Rattle.bus_model.specs.Carrying.{no_takers, with_memory}
 use Rattle.bus_model.specs.Runs.{Run, after_all}
 use Rattle.bus_model.specs.Turns.{events_of_turns}
@@ -38,6 +38,7 @@ write_through_dropping =
 abbrev pub intervention : Setup
 intervention = record {
   memory = 0 ∷ 0 ∷ 0 ∷ 0 ∷ 0 ∷ 100 ∷ 0 ∷ 0 ∷ [];
+  fair = false;
   tables = copy_back ∷ uncached ∷ [];
   boards = cached_board 10 0 1 ∷ plain_board 9 1 ∷ [];
   scripts = (write 5 7 ∷ []) ∷ (read 5 ∷ []) ∷ [];
@@ -64,6 +65,7 @@ intervention_end = record {
   rows = copy 1 1 M (0 ∷ 7 ∷ 0 ∷ 0 ∷ []) 0 ∷ [];
   boards = progress 1 1 2 ∷ progress 1 0 1 ∷ [];
   phase = Idle;
+  arbitration = ByNumber;
 }
 
 -- A dirty word beside a broadcast one: memory takes the broadcast word alone, and the owner gives
@@ -71,6 +73,7 @@ intervention_end = record {
 abbrev pub broadcast : Setup
 broadcast = record {
   memory = 0 ∷ 0 ∷ 0 ∷ 0 ∷ [];
+  fair = false;
   tables = copy_back ∷ copy_back_update ∷ uncached ∷ [];
   boards = cached_board 10 0 1 ∷ cached_board 9 1 1 ∷ plain_board 7 2 ∷ [];
   scripts = (write 0 5 ∷ []) ∷ (read 0 ∷ write 1 6 ∷ []) ∷ (read 0 ∷ []) ∷ [];
@@ -108,12 +111,14 @@ broadcast_end = record {
   rows = copy 1 0 S (5 ∷ 6 ∷ 0 ∷ 0 ∷ []) 0 ∷ copy 2 0 O (5 ∷ 6 ∷ 0 ∷ 0 ∷ []) 0 ∷ [];
   boards = progress 1 1 4 ∷ progress 2 1 3 ∷ progress 1 0 1 ∷ [];
   phase = Idle;
+  arbitration = ByNumber;
 }
 
 -- A board that gives its copy up asserts nothing, and so the reader is alone.
 abbrev pub no_hit : Setup
 no_hit = record {
   memory = 0 ∷ 0 ∷ 0 ∷ 0 ∷ 0 ∷ 0 ∷ 0 ∷ 0 ∷ [];
+  fair = false;
   tables = write_through_dropping ∷ copy_back ∷ [];
   boards = cached_board 5 0 1 ∷ cached_board 9 1 2 ∷ [];
   scripts = (read 0 ∷ []) ∷ (read 4 ∷ read 0 ∷ []) ∷ [];
@@ -144,12 +149,14 @@ no_hit_end = record {
   rows = copy 2 1 E (0 ∷ 0 ∷ 0 ∷ 0 ∷ []) 0 ∷ copy 2 0 E (0 ∷ 0 ∷ 0 ∷ 0 ∷ []) 1 ∷ [];
   boards = progress 1 1 2 ∷ progress 2 2 2 ∷ [];
   phase = Idle;
+  arbitration = ByNumber;
 }
 
 -- A write to a line that is held waits between the phases of another board's read.
 abbrev pub gap : Setup
 gap = record {
   memory = 0 ∷ 0 ∷ 0 ∷ 0 ∷ [];
+  fair = false;
   tables = copy_back ∷ [];
   boards = cached_board 10 0 1 ∷ cached_board 9 0 1 ∷ [];
   scripts = (read 0 ∷ write 0 9 ∷ []) ∷ (read 0 ∷ []) ∷ [];
@@ -180,12 +187,14 @@ gap_end = record {
   rows = copy 1 0 M (9 ∷ 0 ∷ 0 ∷ 0 ∷ []) 0 ∷ [];
   boards = progress 2 1 3 ∷ progress 1 1 2 ∷ [];
   phase = Idle;
+  arbitration = ByNumber;
 }
 
 -- A read of a line that is held goes on between the phases.
 abbrev pub quiet_read : Setup
 quiet_read = record {
   memory = 0 ∷ 0 ∷ 0 ∷ 0 ∷ [];
+  fair = false;
   tables = copy_back ∷ [];
   boards = cached_board 10 0 1 ∷ cached_board 9 0 1 ∷ [];
   scripts = (read 0 ∷ read 0 ∷ []) ∷ (read 0 ∷ []) ∷ [];
@@ -213,6 +222,7 @@ quiet_read_end = record {
   rows = copy 1 0 S (0 ∷ 0 ∷ 0 ∷ 0 ∷ []) 0 ∷ copy 2 0 S (0 ∷ 0 ∷ 0 ∷ 0 ∷ []) 0 ∷ [];
   boards = progress 2 1 3 ∷ progress 1 1 1 ∷ [];
   phase = Idle;
+  arbitration = ByNumber;
 }
 
 -- The configuration in which the uncached board's read is connected.

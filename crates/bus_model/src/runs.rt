@@ -10,6 +10,7 @@ ghost use Rattle.bus_model.specs.Turns.{turn, Waits, LineHeld};
 ghost use Rattle.bus_model.specs.WorkedWords.{read, data_of, did};
 ghost use Rattle.bus_model.specs.WorkedRuns.{Plays, intervention, intervention_schedule, intervention_events, intervention_end, broadcast, broadcast_schedule, broadcast_events, broadcast_end, no_hit, no_hit_schedule, no_hit_events, no_hit_end, gap, gap_schedule, gap_events, gap_end, quiet_read, quiet_read_schedule, quiet_read_events, quiet_read_end, intervening, between_phases};
 ghost use Rattle.bus_model.specs.WorkedRoom.{write_through_word, write_through_word_schedule, write_through_word_events, write_through_word_end, victim_flush, victim_flush_schedule, victim_flush_events, victim_flush_end, given_up, given_up_schedule, given_up_events, given_up_end, alternation, alternation_schedule, alternation_events, alternation_end};
+ghost use Rattle.bus_model.specs.WorkedFair.{passed_over, passed_over_schedule, passed_over_events, passed_over_end, starving, starving_schedule, starving_events, starving_end};
 ghost use Rattle.bus_model.specs.WorkedCopies.{clean_victim, clean_victim_schedule, clean_victim_events, clean_victim_end, captured, captured_schedule, captured_events, captured_end};
 
 /// Each small run is what the turns of its schedule do, and its setup is one that the laws
@@ -30,6 +31,9 @@ pub fn small_runs_are_played()
         alternation_end }
     ensures clean_victim { Plays clean_victim clean_victim_schedule clean_victim_events
         clean_victim_end }
+    ensures passed_over { Plays passed_over passed_over_schedule passed_over_events
+        passed_over_end }
+    ensures starving { Plays starving starving_schedule starving_events starving_end }
     ensures captured { Plays captured captured_schedule captured_events captured_end }
 {}
 

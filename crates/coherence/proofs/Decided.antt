@@ -17,7 +17,7 @@ use Rattle.bus_model.specs.Events.{Local, Drop, Raise, Grant, Connect, DataPhase
 use Rattle.bus_model.specs.Configuration.{Row, Configuration, Phase, Idle, Granted, Connected, state_at, words_at, present_access, is_raised, is_granted, is_connected, is_held}
 use Rattle.bus_model.specs.Board.{access_line, cell_of, needs_bus, wants_row, is_full, victim, is_clean}
 use Rattle.bus_model.specs.Settling.{highest, settled_lines, settled_rounds}
-use Rattle.bus_model.specs.Arbitration.{competing_numbers}
+use Rattle.bus_model.specs.Arbitration.{competing_numbers, does_compete}
 use Rattle.bus_model.specs.Connecting.{other_holders, AnswersFit}
 use Rattle.bus_model.specs.Carrying.{source_of, takers_of, states_of, source_words, reply_of, done_of}
 use Rattle.bus_model.specs.Steps.{is_quiet, CanLocal, CanDrop, CanRaise, CanGrant, ForAccess, ForVictim, CanConnect, CanData}
@@ -108,14 +108,14 @@ granted_decided (Connected t) board = inr (λ h. cc)
 grant_decided :
     (setup : Setup) (c : Configuration) (by winner lines rounds : ℕ) → Known (CanGrant setup c by winner lines rounds)
 grant_decided setup c by winner lines rounds =
-    let numbers : List ℕ = competing_numbers setup c.boards in
+    let numbers : List ℕ = competing_numbers setup c.arbitration c.boards in
     known_as
     (λ h.
     record {
       idle = h.0;
       by_raised = h.1.0;
       wins = record {
-        raised = h.1.1.0;
+        competes = h.1.1.0;
         number_highest = h.1.1.1.0;
         lines_settled = h.1.1.1.1.0;
         rounds_settled = h.1.1.1.1.1;
@@ -125,12 +125,12 @@ grant_decided setup c by winner lines rounds =
       can.idle,
       (
         can.by_raised,
-        (can.wins.raised, (can.wins.number_highest, (can.wins.lines_settled, can.wins.rounds_settled))),
+        (can.wins.competes, (can.wins.number_highest, (can.wins.lines_settled, can.wins.rounds_settled))),
       ),
     ))
     (known_both (idle_decided c.phase)
     (known_both (known_true (is_raised c.boards by))
-    (known_both (known_true (is_raised c.boards winner))
+    (known_both (known_true (does_compete c.arbitration c.boards winner))
     (known_both (same_number (number_of setup winner) (highest numbers))
     (known_both (same_number lines (settled_lines numbers)) (same_number rounds (settled_rounds numbers)))))))
 

@@ -1,14 +1,15 @@
 -- What a turn does from a sound configuration is a step.
 use Rattle.bus_model.specs.Settling.{highest}
-use Rattle.bus_model.specs.Arbitration.{competing, competing_numbers, winner_of}
+use Rattle.bus_model.specs.Arbitration.{competing, competing_numbers, does_compete, winner_of}
 use Rattle.bus_model.specs.Board.{access_line, cell_of, is_clean, is_full, needs_bus, victim}
 use Rattle.bus_model.specs.Carrying.{carried_of, reply_of}
 use Rattle.bus_model.specs.Coherence.{LineCoherent}
-use Rattle.bus_model.specs.Configuration.{Configuration, Connected, Granted, Idle, Phase, Row, is_connected, is_copy, is_granted, is_held, is_of_line, is_raised, memory_line, present_access, progress_of, row_at, rows_of_line, state_at, words_at}
+use Rattle.bus_model.specs.Configuration.{Arbitration, Configuration, Progress, Connected, Granted, Idle, Phase, Row, is_connected, is_copy, is_granted, is_held, is_of_line, is_raised, memory_line, present_access, progress_of, row_at, rows_of_line, state_at, words_at}
 use Rattle.bus_model.specs.Connecting.{AnswersFit, other_holders}
 use Rattle.bus_model.specs.Entries.{latest}
 use Rattle.bus_model.specs.Events.{Connect, DataPhase, Drop, Event, Local, Raise, Transaction}
 use Rattle.bus_model.specs.Laws.{TurnsAreSteps}
+use Rattle.bus_model.specs.Places.{places_from}
 use Rattle.bus_model.specs.Setup.{AllInClass, Setup, WellFormed, board_places, choose_of, line_count, number_of, table_of}
 use Rattle.bus_model.specs.Soundness.{Sound}
 use Rattle.bus_model.specs.Steps.{Can, ForVictim, is_quiet}
@@ -27,9 +28,10 @@ use Rattle.class_relation.specs.declared.LocalAction.{LocalAction}
 use Rattle.coherence.proofs.Answers.{holder_in_class}
 use Rattle.coherence.proofs.Cells.{has_answer-in, has_local-in, in_class_there, permitted_local, pick-in, reached_at}
 use Rattle.coherence.proofs.ClassFacts.{is_fixed, is_silent, silent_is_fixed}
+use Rattle.coherence.proofs.Competing.{some_is_competing}
 use Rattle.coherence.proofs.Lists.{In, all-in, any-in, count-two, filter-in, find-in, in-filter, in-find, length-count}
 use Rattle.coherence.proofs.MasterFacts.{comes_to, fit_together, on_event, owner_flushes}
-use Rattle.coherence.proofs.Places.{IsPlace, places-in}
+use Rattle.coherence.proofs.Places.{IsPlace}
 use Rattle.coherence.proofs.Progress.{board_there, line_within}
 use Rattle.coherence.proofs.RowsKept.{row_sound}
 use Rattle.coherence.proofs.Seen.{row_state}
@@ -215,25 +217,22 @@ highest-in f (a ∷ (b ∷ rest)) x h = go (highest-in f (b ∷ rest) b (inl ref
         pick_one (inl k) = (r.0, inr r.1, omega (arith, r.2))
         pick_one (inr k) = (a, inl refl, omega (arith, r.2))
 
--- The winner of the bus has raised a request, and has the highest number.
+-- The winner of the bus competes, and has the highest number.
 winner_is :
-    (setup : Setup) (c : Configuration) (board : ℕ) → IsPlace (length setup.boards) board
-    → is_raised c.boards board ≡ true
-    → (is_raised c.boards (winner_of setup c.boards) ≡ true)
-    × (number_of setup (winner_of setup c.boards) ≡ highest (competing_numbers setup c.boards))
-winner_is setup c board there raised =
-    let test = λ (b : ℕ). number_of setup b == highest (competing_numbers setup c.boards) in
-    let here : In board (competing setup c.boards) =
-    filter-in (λ b. is_raised c.boards b) (board_places setup) board
-    (places-in setup.boards 1 board there.low (omega (arith, there.high))) raised in
-    let best = highest-in (λ b. number_of setup b) (competing setup c.boards) board here in
-    let found = find-in test (competing setup c.boards) best.0 best.1
-    (eq-eqb (number_of setup best.0) (highest (competing_numbers setup c.boards)) best.2) in
-    let member = in-find test (competing setup c.boards) found.0 found.1 in
-    let winner : winner_of setup c.boards ≡ found.0 = ap (λ o. unwrap_or o 0) found.1 in (
-      ap (is_raised c.boards) winner ∙ (in-filter (λ b. is_raised c.boards b) (board_places setup) found.0 member.0).1,
+    (setup : Setup) (a : Arbitration) (boards : List Progress) (board : ℕ) → is_raised boards board ≡ true
+    → (does_compete a boards (winner_of setup a boards) ≡ true)
+    × (number_of setup (winner_of setup a boards) ≡ highest (competing_numbers setup a boards))
+winner_is setup a boards board raised =
+    let test = λ (b : ℕ). number_of setup b == highest (competing_numbers setup a boards) in
+    let here = some_is_competing a boards board raised in
+    let best = highest-in (λ b. number_of setup b) (competing a boards) here.0 here.1 in
+    let found = find-in test (competing a boards) best.0 best.1
+    (eq-eqb (number_of setup best.0) (highest (competing_numbers setup a boards)) best.2) in
+    let member = in-find test (competing a boards) found.0 found.1 in
+    let winner : winner_of setup a boards ≡ found.0 = ap (λ o. unwrap_or o 0) found.1 in (
+      ap (does_compete a boards) winner ∙ (in-filter (does_compete a boards) (places_from 1 boards) found.0 member.0).1,
       ap (number_of setup) winner
-          ∙ eqb-true (number_of setup found.0) (highest (competing_numbers setup c.boards)) member.1,
+          ∙ eqb-true (number_of setup found.0) (highest (competing_numbers setup a boards)) member.1,
     )
 
 -- ---- the cases of a turn
@@ -340,11 +339,11 @@ module _ (setup : Setup) (events : List Event) (c : Configuration) (well : WellF
           },
         )
     request_case needs not_granted true e Idle f event did =
-        let win = winner_is setup c board there e in
+        let win = winner_is setup c.arbitration c.boards board e in
         subst (Can setup c) (did_same _ event did) (record {
           idle = f;
           by_raised = e;
-          wins = record { raised = win.0; number_highest = win.1; lines_settled = refl; rounds_settled = refl };
+          wins = record { competes = win.0; number_highest = win.1; lines_settled = refl; rounds_settled = refl };
         })
     request_case needs not_granted true e (Granted b) f event did = cc
     request_case needs not_granted true e (Connected t) f event did = cc

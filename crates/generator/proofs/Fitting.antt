@@ -193,10 +193,11 @@ generated_fits n = record {
 pub parts_fit : (n : ℕ) (memory : List ℕ) (tables : List Table) (boards : List BoardSpec) (scripts : List (List Access))
     → memory ≡ replicate 256 0 → tables ≡ generated_tables → boards ≡ map (generated_board n) (numbers_to 16)
     → scripts ≡ dealt n 100000
-    → WellFormed (record { memory = memory; tables = tables; boards = boards; scripts = scripts })
+    → WellFormed (record { memory = memory; fair = false; tables = tables; boards = boards; scripts = scripts })
 parts_fit n memory tables boards scripts m t b s =
-    let same : generated n ≡ record { memory = memory; tables = tables; boards = boards; scripts = scripts } =
-    λ i. record { memory = sym m i; tables = sym t i; boards = sym b i; scripts = sym s i } in
+    let same :
+    generated n ≡ record { memory = memory; fair = false; tables = tables; boards = boards; scripts = scripts } =
+    λ i. record { memory = sym m i; fair = false; tables = sym t i; boards = sym b i; scripts = sym s i } in
     subst (λ (setup : Setup). WellFormed setup) same (generated_fits n)
 
 -- The tables are in the class.

@@ -1,5 +1,5 @@
 -- The generated setup of a number.
-use Rattle.std.specs.Prelude.{ℕ, zero, suc, ◌+◌, ◌-◌, ◌*◌, ◌%◌, ◌^◌, ◌==◌, nat_lt, List, [], ◌∷◌, ◌++◌, map, replicate, slice_set, slice_index_or, if◌then◌else◌}
+use Rattle.std.specs.Prelude.{ℕ, zero, suc, ◌+◌, ◌-◌, ◌*◌, ◌%◌, ◌^◌, ◌==◌, nat_lt, false, List, [], ◌∷◌, ◌++◌, map, replicate, slice_set, slice_index_or, if◌then◌else◌}
 use Rattle.bus_signals.specs.declared.Access.{Access}
 use Rattle.bus_signals.specs.declared.Access.TheVariants.{Read, Write, Pass, Flush}
 use Rattle.class_relation.specs.Tables.{Table}
@@ -61,6 +61,7 @@ numbers_to (suc n) = numbers_to n ++ suc n ∷ []
 abbrev pub generated : ℕ → Setup
 generated n = record {
   memory = replicate 256 0;
+  fair = false;
   tables = generated_tables;
   boards = map (generated_board n) (numbers_to 16);
   scripts = dealt n 100000;

@@ -148,5 +148,5 @@ pub fn make_setup(alloc: Global, n: u64) -> Result<Setup, NoMemory>
     let tables = generated_tables(alloc)?;
     let boards = boards(alloc, n)?;
     let scripts = scripts(alloc, n)?;
-    Ok(Setup::of(memory, tables, boards, scripts))
+    Ok(Setup::of(memory, false, tables, boards, scripts))
 }

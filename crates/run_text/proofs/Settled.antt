@@ -1,4 +1,4 @@
--- The lines of a grant: the boards that compete are a contest, which settles to the highest number in at most seven
+-- The lines of a grant: the boards that compete are a contest, which settles to the highest number in at most nine
 -- rounds.
 use Rattle.std.proofs.Common.{◌≡◌, ◌≢◌, ℕ, zero, suc, ◌+◌, ◌<◌, ◌≤◌, Bool, true, false, cond, List, [], ◌∷◌, length, map, refl, sym, ap, ◌∙◌, subst, arith, inl, inr, ◌⊎◌, unwrap_or, option_map}
 use Rattle.std.specs.Prelude.{All, filter, ◌==◌}
@@ -10,10 +10,11 @@ use Rattle.arbiter.proofs.Members as members
 use Rattle.arbiter.proofs.Settles.{Found, first_is, few_rounds, found_rounds, found_lines, found_highest}
 use Rattle.bus_model.specs.Places.{at_place, places_from}
 use Rattle.bus_model.specs.Setup.{Setup, WellFormed, BoardSpec, board_places, number_of}
-use Rattle.bus_model.specs.Configuration.{Progress, is_raised}
-use Rattle.bus_model.specs.Arbitration.{competing, competing_numbers}
+use Rattle.bus_model.specs.Configuration.{Arbitration, Progress}
+use Rattle.bus_model.specs.Arbitration.{competing, competing_numbers, does_compete}
+use Rattle.coherence.proofs.Competing.{competes_raised, raised_in}
 use Rattle.coherence.proofs.Lists.{In, in-all, all-in, in-filter, filter-in, in-map, map-in, empty-none}
-use Rattle.coherence.proofs.Places.{IsPlace, places-in, in-places}
+use Rattle.coherence.proofs.Places.{IsPlace, in-places}
 use Rattle.coherence.proofs.Cells.{spec_there}
 
 -- What holds of each element holds at each index.
@@ -62,25 +63,29 @@ numbers_are setup (b ∷ boards) well h = (number_is setup b well h.0, numbers_a
 
 -- The boards that compete are a contest, if there is one.
 pub contest :
-    (setup : Setup) (boards : List Progress) (winner : ℕ) → WellFormed setup → IsPlace (length setup.boards) winner
-    → is_raised boards winner ≡ true → IsContest (competing_numbers setup boards)
-contest setup boards winner well there raised =
-    let here : In winner (competing setup boards) =
-    filter-in (λ board. is_raised boards board) (board_places setup) winner
-    (places-in setup.boards 1 winner there.low (omega (arith, there.high))) raised in
-    let each : AllByRecursion (IsPlace (length setup.boards)) (competing setup boards) =
-    all-in (IsPlace (length setup.boards)) (competing setup boards)
-    (λ b m. place-in setup b (in-filter (λ board. is_raised boards board) (board_places setup) b m).0) in
-    let few : length (competing setup boards) ≤ length (board_places setup) =
-    length-filter (λ board. is_raised boards board) (board_places setup) in
-    let places : length (board_places setup) ≡ length setup.boards = length-places 1 setup.boards in
-    let same : length (competing_numbers setup boards) ≡ length (competing setup boards) =
-    length-map (λ board. number_of setup board) (competing setup boards) in
-    let one : 1 ≤ length (competing setup boards) = some_length (competing setup boards) winner here in
+    (setup : Setup) (a : Arbitration) (boards : List Progress) (winner : ℕ) → WellFormed setup
+    → length boards ≡ length setup.boards → does_compete a boards winner ≡ true
+    → IsContest (competing_numbers setup a boards)
+contest setup a boards winner well long competes =
+    let here : In winner (competing a boards) =
+    filter-in (does_compete a boards) (places_from 1 boards) winner
+    (raised_in boards winner (competes_raised a boards winner competes)) competes in
+    let each : AllByRecursion (IsPlace (length setup.boards)) (competing a boards) =
+    all-in (IsPlace (length setup.boards)) (competing a boards)
+    (λ b m.
+    let r = in-places boards 1 b (in-filter (does_compete a boards) (places_from 1 boards) b m).0 in
+    record { low = r.0; high = omega (arith, r.1, long) }) in
+    let few : length (competing a boards) ≤ length (places_from 1 boards) =
+    length-filter (does_compete a boards) (places_from 1 boards) in
+    let places : length (places_from 1 boards) ≡ length boards = length-places 1 boards in
+    let same : length (competing_numbers setup a boards) ≡ length (competing a boards) =
+    length-map (λ board. number_of setup board) (competing a boards) in
+    let one : 1 ≤ length (competing a boards) = some_length (competing a boards) winner here in
     record {
       some = omega (arith, one, same);
-      most = omega (arith, few, places, same, well.boards_high);
-      each = all-index IsNumber (competing_numbers setup boards) (numbers_are setup (competing setup boards) well each);
+      most = omega (arith, few, places, long, same, well.boards_high);
+      each =
+          all-index IsNumber (competing_numbers setup a boards) (numbers_are setup (competing a boards) well each);
     }
   where
     some_length : (xs : List ℕ) (x : ℕ) → In x xs → 1 ≤ length xs
@@ -89,8 +94,8 @@ contest setup boards winner well there raised =
 
 -- A first round from this one on that changes nothing.
 search :
-    (numbers : List ℕ) → IsContest numbers → (tries k : ℕ) → k + tries ≡ 8
-    → ((i : ℕ) → i < k → lines_after numbers (suc i) ≢ lines_after numbers i) → k ≤ 7
+    (numbers : List ℕ) → IsContest numbers → (tries k : ℕ) → k + tries ≡ 10
+    → ((i : ℕ) → i < k → lines_after numbers (suc i) ≢ lines_after numbers i) → k ≤ 9
     → (r : ℕ) × Found numbers (lines_after numbers r) r
 search numbers c zero k e before within = absurd (omega (arith, e, within))
 search numbers c (suc tries) k e before within =
@@ -122,15 +127,15 @@ search numbers c (suc tries) k e before within =
     )
     go false other later = later (eqb-false (lines_after numbers (suc k)) (lines_after numbers k) other)
 
--- The lines of a contest are a number of a board, and come in at most seven rounds.
+-- The lines of a contest are a number of a board, and come in at most nine rounds.
 pub record IsSettled (numbers : List ℕ) : Type 0 where
   pub low : 1 ≤ settled_lines numbers
-  pub high : settled_lines numbers ≤ 255
-  pub rounds : settled_rounds numbers ≤ 7
+  pub high : settled_lines numbers ≤ 1023
+  pub rounds : settled_rounds numbers ≤ 9
 
 pub settled : (numbers : List ℕ) → IsContest numbers → IsSettled numbers
 settled numbers c =
-    let r = search numbers c 8 0 refl (λ i less. absurd (omega (arith, less))) (omega arith) in
+    let r = search numbers c 10 0 refl (λ i less. absurd (omega (arith, less))) (omega arith) in
     let rounds : r.0 ≡ settled_rounds numbers = found_rounds numbers c (lines_after numbers r.0) r.0 r.1 in
     let lines : lines_after numbers r.0 ≡ settled_lines numbers =
     found_lines numbers c (lines_after numbers r.0) r.0 r.1 in

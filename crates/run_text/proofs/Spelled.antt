@@ -20,6 +20,7 @@ use Rattle.bus_model.specs.Carrying.{source_of, takers_of, states_of, master_sta
 use Rattle.bus_model.specs.Connecting.{capturers, intervener}
 use Rattle.bus_model.specs.Steps.{Can, CanConnect, CanData, Purpose}
 use Rattle.bus_model.specs.Soundness.{Sound, PhaseSound, TransactionSound}
+use Rattle.coherence.proofs.Competing.{competes_raised}
 use Rattle.coherence.proofs.Lists.{In, all-append, in-all}
 use Rattle.coherence.proofs.Progress.{board_there, line_within}
 use Rattle.coherence.proofs.Victims.{victim_is}
@@ -194,8 +195,9 @@ module _ (setup : Setup) (events : List Event) (c : Configuration) (well : WellF
     step_is (Raise board) can typed =
         board_is setup board well (board_there setup c.boards board can.0 well can.1.present)
     step_is (Grant by winner lines rounds) can typed =
-        let there = raised_is setup c winner s.parts can.wins.raised in
-        let shown = settled _ (contest setup c.boards winner well there can.wins.raised) in (
+        let raised = competes_raised c.arbitration c.boards winner can.wins.competes in
+        let there = raised_is setup c winner s.parts raised in
+        let shown = settled _ (contest setup c.arbitration c.boards winner well s.parts.boards can.wins.competes) in (
           board_is setup by well (raised_is setup c by s.parts can.by_raised),
           board_is setup winner well there,
           (omega (arith, can.wins.lines_settled, shown.low), omega (arith, can.wins.lines_settled, shown.high)),

@@ -9,10 +9,12 @@ use class_relation::Table;
 use std::marker::Model;
 use table_check::BoardSpec;
 
-/// The words of memory, the tables, the boards and their scripts. Contracts see it as these lists.
+/// The words of memory, whether arbitration is fair, the tables, the boards and their scripts.
+/// Contracts see it as these.
 #[derive(Drop)]
 pub struct Setup {
     memory: Vec<u32>,
+    fair: bool,
     tables: Vec<Table>,
     boards: Vec<BoardSpec>,
     scripts: Vec<Vec<Access>>,
@@ -26,6 +28,7 @@ impl Model for Setup {
 
     ghost view = { λ s. record {
       memory = s.memory.items;
+      fair = s.fair;
       tables = s.tables.items;
       boards = s.boards.items;
       scripts = rows s.scripts.items;
@@ -33,6 +36,7 @@ impl Model for Setup {
 
     ghost invariant = { λ s. WellFormed (record {
       memory = s.memory.items;
+      fair = s.fair;
       tables = s.tables.items;
       boards = s.boards.items;
       scripts = rows s.scripts.items;
@@ -44,12 +48,14 @@ impl Setup {
     /// by the place in the list, from 0.
     pub fn of(
         memory: Vec<u32>,
+        fair: bool,
         tables: Vec<Table>,
         boards: Vec<BoardSpec>,
         scripts: Vec<Vec<Access>>,
     ) -> Setup
         requires { WellFormed (record {
           memory = memory.items;
+          fair = fair;
           tables = tables.items;
           boards = boards.items;
           scripts = rows scripts.items;
@@ -57,6 +63,7 @@ impl Setup {
         ensures { result
             ≡ record {
               memory = memory.items;
+              fair = fair;
               tables = tables.items;
               boards = boards.items;
               scripts = rows scripts.items;
@@ -64,6 +71,7 @@ impl Setup {
     {
         Setup {
             memory,
+            fair,
             tables,
             boards,
             scripts,
@@ -76,6 +84,15 @@ impl Setup {
         ensures sound { WellFormed self.now }
     {
         &self.memory
+    }
+
+    /// Whether arbitration is fair: a board that won the bus is then passed over until every raised
+    /// board was served.
+    pub fn fair(&self) -> bool
+        ensures fair { result ≡ self.now.fair }
+        ensures sound { WellFormed self.now }
+    {
+        self.fair
     }
 
     /// The tables, in their order.

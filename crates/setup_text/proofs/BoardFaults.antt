@@ -166,7 +166,7 @@ abbrev pub made : ℕ → ℕ → List ℕ → Shape → Choose → BoardText
 made p n t shape choose = record { place = p; number = n; table = t; shape = shape; choose = choose; script = [] }
 
 pub fits_made :
-    (p n : ℕ) (t : List ℕ) (shape : Shape) (choose : Choose) → p < 2 ^ 32 → 1 ≤ n → n ≤ 255 → is_name t ≡ true
+    (p n : ℕ) (t : List ℕ) (shape : Shape) (choose : Choose) → p < 2 ^ 32 → 1 ≤ n → n ≤ 1023 → is_name t ≡ true
     → ShapeFits shape → ChooseFits choose → BoardFits (made p n t shape choose)
 fits_made p n t shape choose a b c d e f =
     record { place = a; number = (b, c); table = d; shape = e; choose = f; script = tt }
@@ -175,7 +175,8 @@ pub begins_board :
     (s : SetupText) (b : BoardText) (front more : Words) → StandsSoFar s → BoardFits b → b.script ≡ []
     → board_row b ≡ front ++ more → Begins s front
 begins_board s b front more h fits none e =
-    begins_by (open_rows s) (board_row b) front more (next_board s.lines s.words s.tables s.boards b h.fits fits none) e
+    begins_by (open_rows s) (board_row b) front more
+    (next_board (s.lines, s.fair) s.words s.tables s.boards b h.fits fits none) e
 
 -- what is a name
 pub a_name : is_name (codes "a") ≡ true
@@ -196,19 +197,19 @@ begins_number_word s p h low =
     begins_board s (made p 1 (codes "a") Plain First) (b3 p) (drop 3 (board_row (made p 1 (codes "a") Plain First))) h
     (fits_made p 1 (codes "a") Plain First low (omega arith) (omega arith) a_name tt tt) refl refl
 
-pub begins_number : (s : SetupText) (p n : ℕ) → StandsSoFar s → p < 2 ^ 32 → 1 ≤ n → n ≤ 255 → Begins s (b4 p n)
+pub begins_number : (s : SetupText) (p n : ℕ) → StandsSoFar s → p < 2 ^ 32 → 1 ≤ n → n ≤ 1023 → Begins s (b4 p n)
 begins_number s p n h low a b =
     begins_board s (made p n (codes "a") Plain First) (b4 p n) (drop 4 (board_row (made p n (codes "a") Plain First))) h
     (fits_made p n (codes "a") Plain First low a b a_name tt tt) refl refl
 
-pub begins_table_word : (s : SetupText) (p n : ℕ) → StandsSoFar s → p < 2 ^ 32 → 1 ≤ n → n ≤ 255 → Begins s (b5 p n)
+pub begins_table_word : (s : SetupText) (p n : ℕ) → StandsSoFar s → p < 2 ^ 32 → 1 ≤ n → n ≤ 1023 → Begins s (b5 p n)
 begins_table_word s p n h low a b =
     begins_board s (made p n (codes "a") Plain First) (b5 p n) (drop 5 (board_row (made p n (codes "a") Plain First))) h
     (fits_made p n (codes "a") Plain First low a b a_name tt tt) refl refl
 
 pub begins_behind :
     (s : SetupText) (p n : ℕ) (t : List ℕ) (shape : Shape) (choose : Choose) (ws more : Words) → StandsSoFar s
-    → p < 2 ^ 32 → 1 ≤ n → n ≤ 255 → is_name t ≡ true → ShapeFits shape → ChooseFits choose
+    → p < 2 ^ 32 → 1 ≤ n → n ≤ 1023 → is_name t ≡ true → ShapeFits shape → ChooseFits choose
     → shape_words shape ++ codes "choose" ∷ choose_words choose ≡ ws ++ more → Begins s (b6 p n t ws)
 begins_behind s p n t shape choose ws more h low a b is fs fc e =
     begins_board s (made p n t shape choose) (b6 p n t ws) more h (fits_made p n t shape choose low a b is fs fc) refl
@@ -232,7 +233,7 @@ expects_number_word s p t others f =
     let e = b.2 in (drop 3 (board_row b.0), ap (λ (x : Words). drop 2 x) e)
 
 pub expects_number :
-    (s : SetupText) (p : ℕ) (t : Words) (others : List Words) → Follows s (b3 p ++ t) others → NumberTail 1 255 t
+    (s : SetupText) (p : ℕ) (t : Words) (others : List Words) → Follows s (b3 p ++ t) others → NumberTail 1 1023 t
 expects_number s p t others f =
     let b = only_board s (decimal p ∷ codes "number" ∷ t) others f in
     let fits = b.1 in

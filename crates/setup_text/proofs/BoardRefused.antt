@@ -41,7 +41,7 @@ added_by s x = x >>= λ spec. Ok (body (with_board (setup_of s) spec))
 abbrev numbered_by : SetupText → Result Words SetupKind → Result (ℕ × Words) SetupKind
 numbered_by s x =
     x >>=
-    λ number. this_word (codes "number") number >>= λ after. number_from_one 255 after >>= new_number (boards_of s)
+    λ number. this_word (codes "number") number >>= λ after. number_from_one 1023 after >>= new_number (boards_of s)
 
 module _ (s : SetupText) (h : StandsSoFar s) (rest : List Place) (line : ℕ) where
   module _ (few : length (boards_of s) < 16) where

@@ -58,7 +58,7 @@ pub record Fresh (s : SetupText) (p n : ℕ) (name : List ℕ) (found : ℕ × B
   pub few : length (boards_of s) < 16
   pub place : p ≡ length (boards_of s) + 1
   pub low : 1 ≤ n
-  pub high : n ≤ 255
+  pub high : n ≤ 1023
   pub new : has_number (boards_of s) n ≡ false
   pub is : is_name name ≡ true
   pub at : found_name (map named (setup_of s).tables) name ≡ Some found
@@ -75,7 +75,7 @@ free_3 : (s : SetupText) (p : ℕ) → length (boards_of s) < 16 → p ≡ lengt
 free_3 s p few e = free_push s (b2 p) (codes "number") (free_2 s p few e) (λ k j. j)
 
 free_4 :
-    (s : SetupText) (p n : ℕ) → length (boards_of s) < 16 → p ≡ length (boards_of s) + 1 → n ≤ 255
+    (s : SetupText) (p n : ℕ) → length (boards_of s) < 16 → p ≡ length (boards_of s) + 1 → n ≤ 1023
     → has_number (boards_of s) n ≡ false → FreeHere s (b4 p n)
 free_4 s p n few e high new = free_push s (b3 p) (decimal n) (free_3 s p few e) judged
   where
@@ -85,7 +85,7 @@ free_4 s p n few e high new = free_push s (b3 p) (decimal n) (free_3 s p few e) 
         new_contains (boards_of s) n new (subst (λ (x : ℕ). Contains (numbers_of (boards_of s)) x) (sym same) has)
 
 free_5 :
-    (s : SetupText) (p n : ℕ) → length (boards_of s) < 16 → p ≡ length (boards_of s) + 1 → n ≤ 255
+    (s : SetupText) (p n : ℕ) → length (boards_of s) < 16 → p ≡ length (boards_of s) + 1 → n ≤ 1023
     → has_number (boards_of s) n ≡ false → FreeHere s (b5 p n)
 free_5 s p n few e high new = free_push s (b4 p n) (codes "table") (free_4 s p n few e high new) (λ k j. j)
 
@@ -559,7 +559,7 @@ module _ (s : SetupText) (h : StandsSoFar s) (rest : List Place) (line : ℕ) wh
     small = omega arith
 
     pub table_stops :
-        (n : ℕ) (ws : Words) (k : SetupKind) → 1 ≤ n → n ≤ 255 → has_number (boards_of s) n ≡ false
+        (n : ℕ) (ws : Words) (k : SetupKind) → 1 ≤ n → n ≤ 1023 → has_number (boards_of s) n ≡ false
         → tabled_by n (board_table (setup_of s).tables ws) ≡ Err k → Stops (b4 p n ++ ws) k
     unfolding board_table table_name_at
     table_stops n ws k low high new e = word_case (this_word (codes "table") ws) refl e
@@ -612,12 +612,12 @@ module _ (s : SetupText) (h : StandsSoFar s) (rest : List Place) (line : ℕ) wh
 
     -- the number
     number_stops :
-        (ws : Words) (k : SetupKind) → (number_from_one 255 ws >>= new_number (boards_of s)) ≡ Err k
+        (ws : Words) (k : SetupKind) → (number_from_one 1023 ws >>= new_number (boards_of s)) ≡ Err k
         → Stops (b3 p ++ ws) k
-    number_stops ws k e = go (number_from_one 255 ws) refl e
+    number_stops ws k e = go (number_from_one 1023 ws) refl e
       where
         twice :
-            (n : ℕ) (us : Words) → 1 ≤ n → n ≤ 255 → ws ≡ decimal n ∷ us → has_number (boards_of s) n ≡ true
+            (n : ℕ) (us : Words) → 1 ≤ n → n ≤ 1023 → ws ≡ decimal n ∷ us → has_number (boards_of s) n ≡ true
             → TwiceNumber ≡ k → Stops (b3 p ++ ws) k
         twice n us low high at has same =
             judged_at s line (b3 p ++ ws) rest (b3 p) (decimal n) us k h (ap (λ (x : Words). b3 p ++ x) at)
@@ -625,34 +625,34 @@ module _ (s : SetupText) (h : StandsSoFar s) (rest : List Place) (line : ℕ) wh
             (n, high, refl, has_contains (boards_of s) n has, sym same)
 
         test :
-            (n : ℕ) (us : Words) → 1 ≤ n → n ≤ 255 → ws ≡ decimal n ∷ us → (x : Bool) → has_number (boards_of s) n ≡ x
+            (n : ℕ) (us : Words) → 1 ≤ n → n ≤ 1023 → ws ≡ decimal n ∷ us → (x : Bool) → has_number (boards_of s) n ≡ x
             → cond x (Err TwiceNumber) (number_by n us) ≡ Err k → Stops (b3 p ++ ws) k
         test n us low high at true r e = twice n us low high at r cc
         test n us low high at false r e = absurd cc
 
         go :
-            (x : Result (ℕ × Words) SetupKind) → number_from_one 255 ws ≡ x → (x >>= new_number (boards_of s)) ≡ Err k
+            (x : Result (ℕ × Words) SetupKind) → number_from_one 1023 ws ≡ x → (x >>= new_number (boards_of s)) ≡ Err k
             → Stops (b3 p ++ ws) k
         go (Ok (n, us)) r e =
-            let read = from_one_read 255 ws (n, us) (omega arith) r in
+            let read = from_one_read 1023 ws (n, us) (omega arith) r in
             test n us read.1 read.2 read.0 (has_number (boards_of s) n) refl e
         go (Err j) r e =
             let same : j ≡ k = cc in
-            refused_at s line (b3 p ++ ws) rest (b3 p) ws (NumberTail 1 255) k Number h refl
+            refused_at s line (b3 p ++ ws) rest (b3 p) ws (NumberTail 1 1023) k Number h refl
             (begins_number_word s p h small) (free_3 s p few place)
-            (subst (λ (x : SetupKind). Refused (NumberTail 1 255) ws x Number) same
-            (from_one_refused 255 ws j (omega arith) r)) (λ t others g. expects_number s p t others g) refl refl
+            (subst (λ (x : SetupKind). Refused (NumberTail 1 1023) ws x Number) same
+            (from_one_refused 1023 ws j (omega arith) r)) (λ t others g. expects_number s p t others g) refl refl
 
     -- the word `number`
     pub word_stops :
         (ws : Words) (k : SetupKind)
-        → (this_word (codes "number") ws >>= λ after. number_from_one 255 after >>= new_number (boards_of s)) ≡ Err k
+        → (this_word (codes "number") ws >>= λ after. number_from_one 1023 after >>= new_number (boards_of s)) ≡ Err k
         → Stops (b2 p ++ ws) k
     word_stops ws k e = go (this_word (codes "number") ws) refl e
       where
         go :
             (x : Result Words SetupKind) → this_word (codes "number") ws ≡ x
-            → (x >>= λ after. number_from_one 255 after >>= new_number (boards_of s)) ≡ Err k → Stops (b2 p ++ ws) k
+            → (x >>= λ after. number_from_one 1023 after >>= new_number (boards_of s)) ≡ Err k → Stops (b2 p ++ ws) k
         go (Ok vs) r e =
             subst (λ (x : Words). Stops (b2 p ++ x) k) (sym (word_read (codes "number") ws vs r)) (number_stops vs k e)
         go (Err j) r e =

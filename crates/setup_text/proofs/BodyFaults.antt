@@ -19,18 +19,19 @@ use Rattle.table_text.specs.Reading.{◌>>=◌}
 use Rattle.setup_text.specs.declared.fault.LimitOf.TheVariants.{Boards, Accesses}
 use Rattle.setup_text.specs.declared.fault.SetupKind.{SetupKind}
 use Rattle.setup_text.specs.declared.fault.SetupKind.TheVariants.{UnknownWord, Limit}
-use Rattle.setup_text.specs.Spelling.{TableText, BoardText, SetupText, end_row, word_row, head_row, board_row, access_row, open_rows, setup_rows, AccessFits, SetupFits}
+use Rattle.setup_text.specs.Spelling.{TableText, BoardText, SetupText, end_row, arbiter_row, word_row, head_row, board_row, access_row, open_rows, setup_rows, AccessFits, SetupFits}
 use Rattle.setup_text.specs.Values.{tables_of, setup_of}
 use Rattle.setup_text.specs.Standing.{StandsSoFar}
 use Rattle.setup_text.specs.Grammars.{setup_grammar, BreaksSetup, JudgedFirst, JudgedTableWord}
-use Rattle.setup_text.specs.Drafts.{with_word, with_access}
-use Rattle.setup_text.specs.Reading.{Mode, body, in_table, value_line, address_line, word_line, head_line, table_head, board_added, access_of, access_line, access_read, end_line, maybe_access, body_line}
-use Rattle.setup_text.proofs.LineWords.{binds, is_word, head_read}
-use Rattle.setup_text.proofs.Parts.{text}
-use Rattle.setup_text.proofs.Follows.{Follows, word as word_follows, head, next, board, access, ends, follows, next_word, next_head, next_access, next_end, begins_by}
+use Rattle.setup_text.specs.Drafts.{with_fair, with_word, with_access}
+use Rattle.setup_text.specs.Reading.{Mode, body, in_table, value_line, address_line, word_line, head_line, table_head, board_added, access_of, access_line, access_read, end_line, maybe_access, body_line, this_word, line_ends, arbiter_line, second_line}
+use Rattle.setup_text.proofs.LineWords.{binds, is_word, word_read, nothing_read, head_read}
+use Rattle.setup_text.proofs.Parts.{Opener, text, is_bare}
+use Rattle.setup_text.proofs.Follows.{Follows, arbiter, word as word_follows, head, next, board, access, ends, follows, next_arbiter, next_word, next_head, next_access, next_end, begins_by}
+use Rattle.setup_text.proofs.SetupAgain.{first_word}
 use Rattle.setup_text.proofs.OneText.{breaks_body}
 use Rattle.setup_text.proofs.HeadLines.{head_stops, head_free}
-use Rattle.setup_text.proofs.LineFaults.{spelled, same_breaks, same_unfit, no_row, differ, FreeHere, free_nil, free_push, free_from, word_is_free, end_is_free, event_is_free, Begins, Faulty, unfit_at, judged_at, only_word, only_head, only_end, EventTail, only_access}
+use Rattle.setup_text.proofs.LineFaults.{spelled, same_breaks, same_unfit, no_row, differ, FreeHere, free_nil, free_push, free_from, arbiter_is_free, word_is_free, end_is_free, event_is_free, Begins, Faulty, unfit_at, judged_at, refused_at, Refused, WordTail, EndTail, word_refused, end_refused, only_arbiter, only_word, only_head, only_end, EventTail, only_access}
 use Rattle.setup_text.proofs.BoardRefused.{board_stops, board_passes}
 use Rattle.setup_text.proofs.AddressFaults.{one_stops, one_passes, two_stops, two_passes}
 
@@ -51,6 +52,7 @@ with_by setup x = x >>= λ access. Ok (body (with_access setup access))
 word_stage :
     (s : SetupText) (t : Words) (others : List Words) → Follows s (codes "word" ∷ t) others
     → (s.tables ≡ []) × (s.boards ≡ [])
+word_stage s t others (arbiter h bare) = absurd (no_row (codes "word") h refl refl)
 word_stage s t others (word_follows w f h a b) = (a, b)
 word_stage s t others (head name f h b) = absurd (no_row (codes "word") h refl refl)
 word_stage s t others (next (board b f h)) = absurd (no_row (codes "word") h refl refl)
@@ -64,8 +66,9 @@ word_stage s t others (next (ends h none)) = absurd (no_row (codes "word") h ref
 no_first :
     (s : SetupText) (w : List ℕ) (t : Words) (others : List Words) → bytes_eq w (codes "word") ≡ false
     → bytes_eq w (codes "table") ≡ false → bytes_eq w (codes "board") ≡ false → bytes_eq w (codes "end") ≡ false
-    → local_event_of w ≡ None → Follows s (w ∷ t) others → ⊥
-no_first s w t others a b c d e f = go f
+    → local_event_of w ≡ None → (is_bare s ≡ true → bytes_eq w (codes "arbiter") ≡ false) → Follows s (w ∷ t) others
+    → ⊥
+no_first s w t others a b c d e past f = go f
   where
     first_is : (v : List ℕ) (u : Words) → w ∷ t ≡ v ∷ u → w ≡ v
     first_is v u h = cc
@@ -77,6 +80,7 @@ no_first s w t others a b c d e f = go f
         cc
 
     go : Follows s (w ∷ t) others → ⊥
+    go (arbiter h bare) = differ (first_is (codes "arbiter") (codes "fair" ∷ []) h) (past bare)
     go (word_follows x f h p q) = differ (first_is (codes "word") (decimal x.0 ∷ decimal x.1 ∷ []) h) a
     go (head name f h p) = differ (first_is (codes "table") (name ∷ []) h) b
     go (next (board x f h)) = differ (first_is (codes "board") (drop 1 (board_row x)) h) c
@@ -88,6 +92,7 @@ no_first s w t others a b c d e f = go f
     go (next (ends h none)) = differ (first_is (codes "end") [] h) d
 
 no_empty : (s : SetupText) (others : List Words) → Follows s [] others → ⊥
+no_empty s others (arbiter h bare) = cc
 no_empty s others (word_follows x f h p q) = cc
 no_empty s others (head name f h p) = cc
 no_empty s others (next (board x f h)) = cc
@@ -111,7 +116,7 @@ module _ (rest : List Place) (line : ℕ) where
 
   -- ---- words
 
-  module _ (n : ℕ) (ws : List (ℕ × ℕ)) where
+  module _ (n : Opener) (ws : List (ℕ × ℕ)) where
     begins_row :
         (x y : ℕ) (front more : Words) → StandsSoFar (text n ws [] []) → x < 2 ^ 32 → y < 2 ^ 32
         → word_row (x, y) ≡ front ++ more → Begins (text n ws [] []) front
@@ -151,7 +156,7 @@ module _ (rest : List Place) (line : ℕ) where
         (λ x y a b. begins_row x y (word_row (x, y)) [] h a b refl) (λ t others f. expects_word t others f) l a e
 
   word_stops :
-      (n : ℕ) (ws : List (ℕ × ℕ)) (ts : List TableText) (bs : List BoardText) (l : Words) (k : SetupKind)
+      (n : Opener) (ws : List (ℕ × ℕ)) (ts : List TableText) (bs : List BoardText) (l : Words) (k : SetupKind)
       → StandsSoFar (text n ws ts bs) → word_line (setup_of (text n ws ts bs)) l ≡ Err k
       → Faulty (text n ws ts bs) line (codes "word" ∷ l) rest k
   word_stops n ws (t ∷ ts) bs l k h e =
@@ -174,7 +179,7 @@ module _ (rest : List Place) (line : ℕ) where
       go (Err j) r e = let same : j ≡ k = cc in value_stops n ws l k h (r ∙ ap (λ (x : SetupKind). Err x) same)
 
   word_passes :
-      (n : ℕ) (ws : List (ℕ × ℕ)) (ts : List TableText) (bs : List BoardText) (l : Words) (m : Mode)
+      (n : Opener) (ws : List (ℕ × ℕ)) (ts : List TableText) (bs : List BoardText) (l : Words) (m : Mode)
       → StandsSoFar (text n ws ts bs) → word_line (setup_of (text n ws ts bs)) l ≡ Ok m
       → FreeHere (text n ws ts bs) (codes "word" ∷ l)
   word_passes n ws (t ∷ ts) bs l m h e = absurd cc
@@ -186,7 +191,7 @@ module _ (rest : List Place) (line : ℕ) where
 
   -- ---- tables
 
-  module _ (n : ℕ) (ws : List (ℕ × ℕ)) (ts : List TableText) (h : StandsSoFar (text n ws ts [])) where
+  module _ (n : Opener) (ws : List (ℕ × ℕ)) (ts : List TableText) (h : StandsSoFar (text n ws ts [])) where
     only :
         (r : SetupText) (l : Words) (others : List Words) → SetupFits r
         → setup_rows r ≡ open_rows (text n ws ts []) ++ (codes "table" ∷ l) ∷ others
@@ -236,7 +241,7 @@ module _ (rest : List Place) (line : ℕ) where
         (λ w k j. inr (inl (text n ws ts [], h, refl, j))) name few r.new
 
   table_stops :
-      (n : ℕ) (ws : List (ℕ × ℕ)) (ts : List TableText) (bs : List BoardText) (l : Words) (k : SetupKind)
+      (n : Opener) (ws : List (ℕ × ℕ)) (ts : List TableText) (bs : List BoardText) (l : Words) (k : SetupKind)
       → StandsSoFar (text n ws ts bs) → table_head (setup_of (text n ws ts bs)) l ≡ Err k
       → Faulty (text n ws ts bs) line (codes "table" ∷ l) rest k
   table_stops n ws ts (b ∷ bs) l k h e =
@@ -253,7 +258,7 @@ module _ (rest : List Place) (line : ℕ) where
       go (Err j) r e = let same : j ≡ k = cc in heads_stop n ws ts h l k (r ∙ ap (λ (x : SetupKind). Err x) same)
 
   table_passes :
-      (n : ℕ) (ws : List (ℕ × ℕ)) (ts : List TableText) (bs : List BoardText) (l : Words) (m : Mode)
+      (n : Opener) (ws : List (ℕ × ℕ)) (ts : List TableText) (bs : List BoardText) (l : Words) (m : Mode)
       → StandsSoFar (text n ws ts bs) → table_head (setup_of (text n ws ts bs)) l ≡ Ok m
       → FreeFront BreaksSetup (open_rows (text n ws ts bs)) (codes "table" ∷ l)
   table_passes n ws ts (b ∷ bs) l m h e = absurd cc
@@ -267,7 +272,7 @@ module _ (rest : List Place) (line : ℕ) where
   -- ---- the end
 
   end_stops :
-      (n : ℕ) (ws : List (ℕ × ℕ)) (ts : List TableText) (bs : List BoardText) (l : Words) (k : SetupKind)
+      (n : Opener) (ws : List (ℕ × ℕ)) (ts : List TableText) (bs : List BoardText) (l : Words) (k : SetupKind)
       → StandsSoFar (text n ws ts bs) → end_line (setup_of (text n ws ts bs)) l ≡ Err k
       → Faulty (text n ws ts bs) line (codes "end" ∷ l) rest k
   end_stops n ws ts [] l k h e =
@@ -287,7 +292,7 @@ module _ (rest : List Place) (line : ℕ) where
       (λ more others f. (let none : w ∷ more ≡ [] = only_end s (w ∷ more) others f in cc)) (sym same)
 
   end_passes :
-      (n : ℕ) (ws : List (ℕ × ℕ)) (ts : List TableText) (bs : List BoardText) (l : Words) (m : Mode)
+      (n : Opener) (ws : List (ℕ × ℕ)) (ts : List TableText) (bs : List BoardText) (l : Words) (m : Mode)
       → StandsSoFar (text n ws ts bs) → end_line (setup_of (text n ws ts bs)) l ≡ Ok m
       → FreeHere (text n ws ts bs) (codes "end" ∷ l)
   end_passes n ws ts [] l m h e = absurd cc
@@ -298,7 +303,7 @@ module _ (rest : List Place) (line : ℕ) where
 
   -- ---- accesses
 
-  module _ (n : ℕ) (ws : List (ℕ × ℕ)) (ts : List TableText) (front : List BoardText) (b : BoardText) where
+  module _ (n : Opener) (ws : List (ℕ × ℕ)) (ts : List TableText) (front : List BoardText) (b : BoardText) where
     begins_access :
         (a : Access) (words more : Words) → StandsSoFar (text n ws ts (front ++ b ∷ [])) → AccessFits a
         → access_row a ≡ words ++ more → Begins (text n ws ts (front ++ b ∷ [])) words
@@ -306,8 +311,8 @@ module _ (rest : List Place) (line : ℕ) where
         begins_by (open_rows (text n ws ts (front ++ b ∷ []))) (access_row a) words more
         (next_access n ws ts front b a h.fits fits) e
 
-  module _ (n : ℕ) (ws : List (ℕ × ℕ)) (ts : List TableText) (bs : List BoardText) (h : StandsSoFar (text n ws ts bs))
-      (some : 0 < length bs) where
+  module _ (n : Opener) (ws : List (ℕ × ℕ)) (ts : List TableText) (bs : List BoardText)
+      (h : StandsSoFar (text n ws ts bs)) (some : 0 < length bs) where
     begins_there :
         (a : Access) (words more : Words) → AccessFits a → access_row a ≡ words ++ more → Begins (text n ws ts bs) words
     begins_there a words more fits e = go (empty_or_last bs)
@@ -418,8 +423,8 @@ module _ (rest : List Place) (line : ℕ) where
           (λ x y a b. begins_there (accesses.Write x y) (codes "write" ∷ decimal x ∷ decimal y ∷ []) [] (a, b) refl)
           (λ t others f. expects_access events.Write t others f) l a e
 
-  module _ (n : ℕ) (ws : List (ℕ × ℕ)) (ts : List TableText) (bs : List BoardText) (h : StandsSoFar (text n ws ts bs))
-      (some : 0 < length bs) where
+  module _ (n : Opener) (ws : List (ℕ × ℕ)) (ts : List TableText) (bs : List BoardText)
+      (h : StandsSoFar (text n ws ts bs)) (some : 0 < length bs) where
     there :
         (a : Access) (words more : Words) → AccessFits a → access_row a ≡ words ++ more → Begins (text n ws ts bs) words
     there a words more fits e = begins_there n ws ts bs h some a words more fits e
@@ -504,7 +509,7 @@ module _ (rest : List Place) (line : ℕ) where
         go (Err j) r e = absurd cc
 
   access_stops :
-      (n : ℕ) (ws : List (ℕ × ℕ)) (ts : List TableText) (bs : List BoardText) (event : LocalEvent) (l : Words)
+      (n : Opener) (ws : List (ℕ × ℕ)) (ts : List TableText) (bs : List BoardText) (event : LocalEvent) (l : Words)
       (k : SetupKind) → StandsSoFar (text n ws ts bs) → access_read (setup_of (text n ws ts bs)) event l ≡ Err k
       → Faulty (text n ws ts bs) line (local_event_word event ∷ l) rest k
   access_stops n ws ts [] event l k h e =
@@ -547,7 +552,7 @@ module _ (rest : List Place) (line : ℕ) where
       room false r e = full (ltb-false (access_count (setup_of (text n ws ts (b ∷ bs)))) 100000 r) cc
 
   access_passes :
-      (n : ℕ) (ws : List (ℕ × ℕ)) (ts : List TableText) (bs : List BoardText) (event : LocalEvent) (l : Words)
+      (n : Opener) (ws : List (ℕ × ℕ)) (ts : List TableText) (bs : List BoardText) (event : LocalEvent) (l : Words)
       (m : Mode) → StandsSoFar (text n ws ts bs) → access_read (setup_of (text n ws ts bs)) event l ≡ Ok m
       → FreeHere (text n ws ts bs) (local_event_word event ∷ l)
   access_passes n ws ts [] event l m h e = absurd cc
@@ -570,15 +575,16 @@ module _ (rest : List Place) (line : ℕ) where
 
   -- A line that was refused.
   pub body_stops :
-      (n : ℕ) (ws : List (ℕ × ℕ)) (ts : List TableText) (bs : List BoardText) (l : Words) (k : SetupKind)
+      (n : Opener) (ws : List (ℕ × ℕ)) (ts : List TableText) (bs : List BoardText) (l : Words) (k : SetupKind)
+      → (is_bare (text n ws ts bs) ≡ true → bytes_eq (first_word l) (codes "arbiter") ≡ false)
       → StandsSoFar (text n ws ts bs) → body_line (setup_of (text n ws ts bs)) l ≡ Err k
       → Faulty (text n ws ts bs) line l rest k
   unfolding body_line
-  body_stops n ws ts bs [] k h e =
+  body_stops n ws ts bs [] k past h e =
       let same : UnknownWord ≡ k = cc in
       unfit_at (text n ws ts bs) line [] rest [] None [] k h refl (begins_none (text n ws ts bs) h)
       (free_nil (text n ws ts bs)) (λ more others f. no_empty (text n ws ts bs) others f) (sym same)
-  body_stops n ws ts bs (w ∷ l) k h e = first_test (bytes_eq w (codes "word")) refl e
+  body_stops n ws ts bs (w ∷ l) k past h e = first_test (bytes_eq w (codes "word")) refl e
     where
       by_word :
           (v : List ℕ) → bytes_eq w v ≡ true → Faulty (text n ws ts bs) line (v ∷ l) rest k
@@ -590,7 +596,8 @@ module _ (rest : List Place) (line : ℕ) where
           → bytes_eq w (codes "end") ≡ false → (o : Option LocalEvent) → local_event_of w ≡ o
           → maybe_access (setup_of (text n ws ts bs)) o l ≡ Err k → Faulty (text n ws ts bs) line (w ∷ l) rest k
       last_test a b c d None t e =
-          unknown (text n ws ts bs) w l k h (λ more others f. no_first (text n ws ts bs) w more others a b c d t f) cc
+          unknown (text n ws ts bs) w l k h (λ more others f. no_first (text n ws ts bs) w more others a b c d t past f)
+          cc
       last_test a b c d (Some event) t e =
           subst (λ (x : List ℕ). Faulty (text n ws ts bs) line (x ∷ l) rest k) (sym (local_event_is w event t))
           (access_stops n ws ts bs event l k h e)
@@ -637,7 +644,7 @@ module _ (rest : List Place) (line : ℕ) where
 
   -- A line that was read.
   pub body_passes :
-      (n : ℕ) (ws : List (ℕ × ℕ)) (ts : List TableText) (bs : List BoardText) (l : Words) (m : Mode)
+      (n : Opener) (ws : List (ℕ × ℕ)) (ts : List TableText) (bs : List BoardText) (l : Words) (m : Mode)
       → StandsSoFar (text n ws ts bs) → body_line (setup_of (text n ws ts bs)) l ≡ Ok m
       → FreeFront BreaksSetup (open_rows (text n ws ts bs)) l
   unfolding body_line
@@ -699,3 +706,112 @@ module _ (rest : List Place) (line : ℕ) where
           → FreeFront BreaksSetup (open_rows (text n ws ts bs)) (w ∷ l)
       first_test true t e = by_here (codes "word") (is_word w (codes "word") t) (word_passes n ws ts bs l m h e)
       first_test false t e = second_test (bytes_eq w (codes "table")) refl e
+
+  -- ---- the line after the `memory` line
+
+  module _ (n : ℕ) (h : StandsSoFar (text (n, false) [] [] [])) where
+    abbrev bare : SetupText
+    bare = text (n, false) [] [] []
+
+    begins_arbiter : (front more : Words) → arbiter_row ≡ front ++ more → Begins (text (n, false) [] [] []) front
+    begins_arbiter front more e =
+        begins_by (open_rows (text (n, false) [] [] [])) arbiter_row front more (next_arbiter n h.fits) e
+
+    arbiter_free : FreeHere (text (n, false) [] [] []) (codes "arbiter" ∷ [])
+    arbiter_free = free_push bare [] (codes "arbiter") (free_nil bare) (arbiter_is_free bare)
+
+    row_free : FreeHere (text (n, false) [] [] []) arbiter_row
+    row_free = free_push bare (codes "arbiter" ∷ []) (codes "fair") arbiter_free (λ k j. j)
+
+    behind_row :
+        (us : Words) (k : SetupKind) → line_ends us ≡ Err k
+        → Faulty (text (n, false) [] [] []) line (codes "arbiter" ∷ codes "fair" ∷ us) rest k
+    behind_row us k e =
+        refused_at bare line (codes "arbiter" ∷ codes "fair" ∷ us) rest arbiter_row us EndTail k UnknownWord h refl
+        (begins_arbiter arbiter_row [] refl) row_free (end_refused us k e)
+        (λ t others f.
+        (let is : codes "fair" ∷ t ≡ codes "fair" ∷ [] = only_arbiter bare (codes "fair" ∷ t) others f in
+        let none : t ≡ [] = cc in none)) refl refl
+
+    arbiter_stops :
+        (l : Words) (k : SetupKind) → arbiter_line (setup_of (text (n, false) [] [] [])) l ≡ Err k
+        → Faulty (text (n, false) [] [] []) line (codes "arbiter" ∷ l) rest k
+    unfolding arbiter_line
+    arbiter_stops l k e = go (this_word (codes "fair") l) refl e
+      where
+        ending :
+            (us : Words) (x : Result (Unit {0}) SetupKind) → line_ends us ≡ x
+            → (x >>= λ _. Ok (body (with_fair (setup_of (text (n, false) [] [] []))))) ≡ Err k
+            → Faulty (text (n, false) [] [] []) line (codes "arbiter" ∷ codes "fair" ∷ us) rest k
+        ending us (Ok y) r e = absurd cc
+        ending us (Err j) r e =
+            let same : j ≡ k = cc in behind_row us k (r ∙ ap (λ (x : SetupKind). Err x) same)
+
+        go :
+            (x : Result Words SetupKind) → this_word (codes "fair") l ≡ x
+            → (x >>=
+            λ after. line_ends after >>= λ _. Ok (body (with_fair (setup_of (text (n, false) [] [] []))))) ≡ Err k
+            → Faulty (text (n, false) [] [] []) line (codes "arbiter" ∷ l) rest k
+        go (Ok us) r e =
+            subst (λ (x : Words). Faulty (text (n, false) [] [] []) line (codes "arbiter" ∷ x) rest k)
+            (sym (word_read (codes "fair") l us r)) (ending us (line_ends us) refl e)
+        go (Err j) r e =
+            let same : j ≡ k = cc in
+            refused_at bare line (codes "arbiter" ∷ l) rest (codes "arbiter" ∷ []) l (WordTail (codes "fair")) k
+            UnknownWord h refl (begins_arbiter (codes "arbiter" ∷ []) (codes "fair" ∷ []) refl) arbiter_free
+            (subst (λ (x : SetupKind). Refused (WordTail (codes "fair")) l x UnknownWord) same
+            (word_refused (codes "fair") l j r))
+            (λ t others f. ([], only_arbiter bare t others f)) refl refl
+
+    arbiter_passes :
+        (l : Words) (m : Mode) → arbiter_line (setup_of (text (n, false) [] [] [])) l ≡ Ok m
+        → FreeFront BreaksSetup (open_rows (text (n, false) [] [] [])) (codes "arbiter" ∷ l)
+    unfolding arbiter_line
+    arbiter_passes l m e =
+        let setup = setup_of (text (n, false) [] [] []) in
+        let a = binds (this_word (codes "fair") l) (λ after. line_ends after >>= λ _. Ok (body (with_fair setup))) m e
+        in
+        let b = binds (line_ends a.value) (λ _. Ok (body (with_fair setup))) m a.then in
+        let is : l ≡ codes "fair" ∷ [] =
+        word_read (codes "fair") l a.value a.here
+        ∙ ap (λ (u : Words). codes "fair" ∷ u) (nothing_read a.value b.value b.here) in
+        subst (λ (x : Words). FreeFront BreaksSetup (open_rows (text (n, false) [] [] [])) (codes "arbiter" ∷ x))
+        (sym is) (free_from bare arbiter_row h row_free)
+
+  -- A line that was refused.
+  pub second_stops :
+      (n : ℕ) (l : Words) (k : SetupKind) → StandsSoFar (text (n, false) [] [] [])
+      → second_line (setup_of (text (n, false) [] [] [])) l ≡ Err k
+      → Faulty (text (n, false) [] [] []) line l rest k
+  unfolding second_line body_line
+  second_stops n [] k h e = body_stops (n, false) [] [] [] [] k (λ b. refl) h e
+  second_stops n (w ∷ l) k h e = go (bytes_eq w (codes "arbiter")) refl e
+    where
+      go :
+          (b : Bool) → bytes_eq w (codes "arbiter") ≡ b
+          → cond b (arbiter_line (setup_of (text (n, false) [] [] [])) l)
+          (body_line (setup_of (text (n, false) [] [] [])) (w ∷ l)) ≡ Err k
+          → Faulty (text (n, false) [] [] []) line (w ∷ l) rest k
+      go true t e =
+          subst (λ (x : List ℕ). Faulty (text (n, false) [] [] []) line (x ∷ l) rest k)
+          (sym (is_word w (codes "arbiter") t)) (arbiter_stops n h l k e)
+      go false t e = body_stops (n, false) [] [] [] (w ∷ l) k (λ b. t) h e
+
+  -- A line that was read.
+  pub second_passes :
+      (n : ℕ) (l : Words) (m : Mode) → StandsSoFar (text (n, false) [] [] [])
+      → second_line (setup_of (text (n, false) [] [] [])) l ≡ Ok m
+      → FreeFront BreaksSetup (open_rows (text (n, false) [] [] [])) l
+  unfolding second_line
+  second_passes n [] m h e = absurd cc
+  second_passes n (w ∷ l) m h e = go (bytes_eq w (codes "arbiter")) refl e
+    where
+      go :
+          (b : Bool) → bytes_eq w (codes "arbiter") ≡ b
+          → cond b (arbiter_line (setup_of (text (n, false) [] [] [])) l)
+          (body_line (setup_of (text (n, false) [] [] [])) (w ∷ l)) ≡ Ok m
+          → FreeFront BreaksSetup (open_rows (text (n, false) [] [] [])) (w ∷ l)
+      go true t e =
+          subst (λ (x : List ℕ). FreeFront BreaksSetup (open_rows (text (n, false) [] [] [])) (x ∷ l))
+          (sym (is_word w (codes "arbiter") t)) (arbiter_passes n h l m e)
+      go false t e = body_passes (n, false) [] [] [] (w ∷ l) m h e

@@ -200,7 +200,7 @@ invalid_only t h s r =
 
 -- a board that was read
 pub board_fits :
-    (s : Setup) (number : ℕ) (table : ℕ × Bool) (shape : Shape) (choose : Choose) → 1 ≤ number → number ≤ 255
+    (s : Setup) (number : ℕ) (table : ℕ × Bool) (shape : Shape) (choose : Choose) → 1 ≤ number → number ≤ 1023
     → IsKnown s.tables table → IsShape table.1 shape
     → BoardFits s (record { number = number; table = table.0; shape = shape; choose = choose })
 board_fits s number table shape choose low high known fits =

@@ -1,16 +1,18 @@
 -- The lines that can follow the lines of a setup in some text of the productions.
-use Rattle.std.proofs.Common.{◌≡◌, ℕ, ◌<◌, ◌⊎◌, inl, inr, List, [], ◌∷◌, ◌++◌, map, length, refl, sym, ap, subst, ◌∙◌, append_assoc, arith, true}
+use Rattle.std.proofs.Common.{◌≡◌, ℕ, ◌<◌, ◌⊎◌, inl, inr, Bool, false, not, ◌&&◌, List, [], ◌∷◌, ◌++◌, map, length, refl, sym, ap, subst, ◌∙◌, append_assoc, arith, true}
 use Rattle.std.specs.List.{AllByRecursion}
+use Rattle.std.proofs.lemmas.Bool.{and_from}
+use Rattle.fb_text.specs.Lines.{is_empty}
 use Rattle.fb_text.specs.Places.{Words}
 use Rattle.fb_text.proofs.LineLaws.{HasNext, BeginsLine}
 use Rattle.bus_signals.specs.declared.Access.{Access}
 use Rattle.bus_signals.specs.declared.Access.TheVariants as accesses
 use Rattle.class_relation.specs.Names.{is_name}
 use Rattle.table_text.specs.Spelling.{CellLine, local, answer, cell_words, HasAlternative}
-use Rattle.setup_text.specs.Spelling.{TableText, BoardText, SetupText, end_row, memory_row, word_row, head_row, board_row, access_row, open_table_rows, table_rows, board_rows, tables_rows, open_rows, setup_rows, AccessFits, WordFits, TableFits, BoardFits, SetupFits}
+use Rattle.setup_text.specs.Spelling.{TableText, BoardText, SetupText, end_row, memory_row, arbiter_row, arbiter_rows, word_row, head_row, board_row, access_row, open_table_rows, table_rows, board_rows, tables_rows, open_rows, setup_rows, AccessFits, WordFits, TableFits, BoardFits, SetupFits}
 use Rattle.setup_text.specs.Grammars.{setup_grammar}
 use Rattle.setup_text.proofs.Growing.{each_push, each_before}
-use Rattle.setup_text.proofs.Parts.{text, table_text, and_access, rows_word, rows_table, rows_board, rows_access}
+use Rattle.setup_text.proofs.Parts.{Opener, text, is_bare, table_text, and_access, rows_word, rows_table, rows_board, rows_access}
 
 -- ---- peeling
 
@@ -168,6 +170,7 @@ boards_follow (b ∷ bs) (d ∷ ds) l others fits e =
 -- ---- a setup
 
 pub data Follows (s : SetupText) (l : Words) (others : List Words) : Type 0 where
+  arbiter : l ≡ arbiter_row → is_bare s ≡ true → Follows s l others
   word : (w : ℕ × ℕ) → WordFits w → l ≡ word_row w → s.tables ≡ [] → s.boards ≡ [] → Follows s l others
   head : (name : List ℕ) → is_name name ≡ true → l ≡ head_row name → s.boards ≡ [] → Follows s l others
   next : InBoards s.boards l others → Follows s l others
@@ -186,15 +189,19 @@ no_word_tables [] ds w rest e = no_word_boards ds w rest e
 no_word_tables (u ∷ us) ds w rest e = cc
 
 -- the lines of a setup with what follows them
+abbrev after_opener : SetupText → List Words → List Words
+after_opener s X = map word_row s.words ++ (tables_rows s.tables ++ (boards_rows s.boards ++ X))
+
 rows_open :
     (s : SetupText) (X : List Words)
-    → open_rows s ++ X
-    ≡ memory_row s.lines ∷ (map word_row s.words ++ (tables_rows s.tables ++ (boards_rows s.boards ++ X)))
+    → open_rows s ++ X ≡ memory_row s.lines ∷ (arbiter_rows s.fair ++ after_opener s X)
 rows_open s X =
     ap (λ (v : List Words). memory_row s.lines ∷ v)
+    (append_assoc (arbiter_rows s.fair) (map word_row s.words ++ (tables_rows s.tables ++ boards_rows s.boards)) X
+    ∙ ap (λ (v : List Words). arbiter_rows s.fair ++ v)
     (append_assoc (map word_row s.words) (tables_rows s.tables ++ boards_rows s.boards) X
     ∙ ap (λ (v : List Words). map word_row s.words ++ v)
-    (append_assoc (tables_rows s.tables) (boards_rows s.boards) X))
+    (append_assoc (tables_rows s.tables) (boards_rows s.boards) X)))
 
 abbrev Behind : SetupText → List Words → Type 0
 Behind s X =
@@ -203,24 +210,63 @@ Behind s X =
     × (tables_rows s.tables ++ (boards_rows s.boards ++ X)
     ≡ map word_row vs ++ (tables_rows us ++ (boards_rows ds ++ (end_row ∷ []))))
 
-behind : (s r : SetupText) (X : List Words) → SetupFits r → setup_rows r ≡ open_rows s ++ X → Behind s X
+-- what stands there is an `arbiter` line
+abbrev IsArbiter : SetupText → List Words → Type 0
+IsArbiter s X = (is_bare s ≡ true) × (rest : List Words) × (X ≡ arbiter_row ∷ rest)
+
+no_arbiter :
+    (vs : List (ℕ × ℕ)) (us : List TableText) (ds : List BoardText) (Y : List Words)
+    → arbiter_row ∷ Y ≡ map word_row vs ++ (tables_rows us ++ (boards_rows ds ++ (end_row ∷ []))) → ⊥
+no_arbiter (v ∷ vs) us ds Y e = cc
+no_arbiter [] (u ∷ us) ds Y e = cc
+no_arbiter [] [] (d ∷ ds) Y e = cc
+no_arbiter [] [] [] Y e = cc
+
+bare_lines :
+    (ws : List (ℕ × ℕ)) (ts : List TableText) (bs : List BoardText) (X Y : List Words)
+    → map word_row ws ++ (tables_rows ts ++ (boards_rows bs ++ X)) ≡ arbiter_row ∷ Y
+    → ((is_empty ws && (is_empty ts && is_empty bs)) ≡ true) × (X ≡ arbiter_row ∷ Y)
+bare_lines (w ∷ ws) ts bs X Y e = absurd cc
+bare_lines [] (t ∷ ts) bs X Y e = absurd cc
+bare_lines [] [] (b ∷ bs) X Y e = absurd cc
+bare_lines [] [] [] X Y e = (refl, e)
+
+behind :
+    (s r : SetupText) (X : List Words) → SetupFits r → setup_rows r ≡ open_rows s ++ X → Behind s X ⊎ IsArbiter s X
 behind s r X fits e =
-    let both : memory_row s.lines ∷ (map word_row s.words ++ (tables_rows s.tables ++ (boards_rows s.boards ++ X)))
-    ≡ memory_row r.lines
-    ∷ (map word_row r.words ++ (tables_rows r.tables ++ (boards_rows r.boards ++ (end_row ∷ [])))) =
+    let both : memory_row s.lines ∷ (arbiter_rows s.fair ++ after_opener s X)
+    ≡ memory_row r.lines ∷ (arbiter_rows r.fair ++ after_opener r (end_row ∷ [])) =
     sym (rows_open s X) ∙ (sym e ∙ rows_open r (end_row ∷ [])) in
-    let rest : map word_row s.words ++ (tables_rows s.tables ++ (boards_rows s.boards ++ X))
-    ≡ map word_row r.words ++ (tables_rows r.tables ++ (boards_rows r.boards ++ (end_row ∷ []))) = cc in
-    let p = peel_words s.words r.words (tables_rows s.tables ++ (boards_rows s.boards ++ X))
-    (tables_rows r.tables ++ (boards_rows r.boards ++ (end_row ∷ []))) fits.words (no_word_tables r.tables r.boards)
-    rest in
-    (p.0, r.tables, r.boards, p.1, fits.tables, fits.boards, p.2)
+    let rest : arbiter_rows s.fair ++ after_opener s X ≡ arbiter_rows r.fair ++ after_opener r (end_row ∷ []) = cc in
+    go s.fair refl r.fair rest
+  where
+    same : after_opener s X ≡ after_opener r (end_row ∷ []) → Behind s X ⊎ IsArbiter s X
+    same e =
+        let p = peel_words s.words r.words (tables_rows s.tables ++ (boards_rows s.boards ++ X))
+        (tables_rows r.tables ++ (boards_rows r.boards ++ (end_row ∷ []))) fits.words
+        (no_word_tables r.tables r.boards) e in
+        inl (p.0, r.tables, r.boards, p.1, fits.tables, fits.boards, p.2)
+
+    go :
+        (a : Bool) → s.fair ≡ a → (b : Bool)
+        → arbiter_rows a ++ after_opener s X ≡ arbiter_rows b ++ after_opener r (end_row ∷ [])
+        → Behind s X ⊎ IsArbiter s X
+    go true h true e = let tail : after_opener s X ≡ after_opener r (end_row ∷ []) = cc in same tail
+    go false h false e = same e
+    go true h false e = absurd (no_arbiter r.words r.tables r.boards (after_opener s X) e)
+    go false h true e =
+        let p = bare_lines s.words s.tables s.boards X (after_opener r (end_row ∷ [])) e in
+        inr (
+          and_from (not s.fair) (is_empty s.words && (is_empty s.tables && is_empty s.boards)) (ap not h) p.0,
+          after_opener r (end_row ∷ []),
+          p.1,
+        )
 
 -- a line after the lines of a setup
 pub follows :
     (s r : SetupText) (l : Words) (others : List Words) → SetupFits r → setup_rows r ≡ open_rows s ++ l ∷ others
     → Follows s l others
-follows s r l others fits e = words (behind s r (l ∷ others) fits e)
+follows s r l others fits e = there (behind s r (l ∷ others) fits e)
   where
     tables :
         (us : List TableText) (ds : List BoardText) → AllByRecursion TableFits us → AllByRecursion BoardFits ds
@@ -249,6 +295,10 @@ follows s r l others fits e = words (behind s r (l ∷ others) fits e)
     words : Behind s (l ∷ others) → Follows s l others
     words (vs, us, ds, fv, fu, fd, e) = no_words vs us ds fv fu fd s.tables s.boards refl refl e
 
+    there : Behind s (l ∷ others) ⊎ IsArbiter s (l ∷ others) → Follows s l others
+    there (inl h) = words h
+    there (inr (bare, more, e)) = let here : l ≡ arbiter_row = cc in arbiter here bare
+
 -- a line after the lines of an open table
 pub follows_open :
     (s r : SetupText) (t : TableText) (l : Words) (others : List Words) → s.boards ≡ [] → SetupFits r
@@ -269,8 +319,9 @@ follows_open s r t l others none fits e =
     no_words (v ∷ vs) us ds fu [] e = absurd cc
     no_words (v ∷ vs) us ds fu (u ∷ ts) e = absurd cc
 
-    go : Behind s (open_table_rows t ++ l ∷ others) → InTable l
-    go (vs, us, ds, fv, fu, fd, e) =
+    go : Behind s (open_table_rows t ++ l ∷ others) ⊎ IsArbiter s (open_table_rows t ++ l ∷ others) → InTable l
+    go (inr (bare, more, e)) = absurd cc
+    go (inl (vs, us, ds, fv, fu, fd, e)) =
         no_words vs us ds fu s.tables
         (ap (λ (x : List BoardText). tables_rows s.tables ++ (boards_rows x ++ (open_table_rows t ++ l ∷ others)))
         (sym none) ∙ e)
@@ -282,6 +333,7 @@ nothing_follows s r l others fits e =
     go (follows s r end_row (l ∷ others) fits (e ∙ append_assoc (open_rows s) (end_row ∷ []) (l ∷ others)))
   where
     go : Follows s end_row (l ∷ others) → ⊥
+    go (arbiter h bare) = cc
     go (word w f h st sb) = cc
     go (head name f h sb) = cc
     go (next (board b f h)) = cc
@@ -299,8 +351,14 @@ ended_rows :
 ended_rows s done l fits e =
     (s, end_row ∷ [], fits, ap (λ (v : List Words). v ++ end_row ∷ []) e ∙ append_assoc done (l ∷ []) (end_row ∷ []))
 
+pub next_arbiter :
+    (n : ℕ) → SetupFits (text (n, false) [] [] []) → Next (open_rows (text (n, false) [] [] [])) arbiter_row
+next_arbiter n fits =
+    ended_rows (text (n, true) [] [] []) (open_rows (text (n, false) [] [] [])) arbiter_row
+    (record { lines = fits.lines; words = tt; tables = tt; boards = tt }) refl
+
 pub next_word :
-    (n : ℕ) (ws : List (ℕ × ℕ)) (w : ℕ × ℕ) → SetupFits (text n ws [] []) → WordFits w
+    (n : Opener) (ws : List (ℕ × ℕ)) (w : ℕ × ℕ) → SetupFits (text n ws [] []) → WordFits w
     → Next (open_rows (text n ws [] [])) (word_row w)
 next_word n ws w fits f =
     ended_rows (text n (ws ++ w ∷ []) [] []) (open_rows (text n ws [] [])) (word_row w)
@@ -308,7 +366,7 @@ next_word n ws w fits f =
     (rows_word n ws w)
 
 pub next_head :
-    (n : ℕ) (ws : List (ℕ × ℕ)) (ts : List TableText) (name : List ℕ) → SetupFits (text n ws ts [])
+    (n : Opener) (ws : List (ℕ × ℕ)) (ts : List TableText) (name : List ℕ) → SetupFits (text n ws ts [])
     → is_name name ≡ true → Next (open_rows (text n ws ts [])) (head_row name)
 next_head n ws ts name fits f =
     let t = table_text name [] in (
@@ -325,7 +383,7 @@ next_head n ws ts name fits f =
     )
 
 pub next_board :
-    (n : ℕ) (ws : List (ℕ × ℕ)) (ts : List TableText) (bs : List BoardText) (b : BoardText)
+    (n : Opener) (ws : List (ℕ × ℕ)) (ts : List TableText) (bs : List BoardText) (b : BoardText)
     → SetupFits (text n ws ts bs) → BoardFits b → b.script ≡ [] → Next (open_rows (text n ws ts bs)) (board_row b)
 next_board n ws ts bs b fits f none =
     ended_rows (text n ws ts (bs ++ b ∷ [])) (open_rows (text n ws ts bs)) (board_row b)
@@ -339,7 +397,7 @@ next_board n ws ts bs b fits f none =
     ∙ ap (λ (x : List Access). open_rows (text n ws ts bs) ++ (board_row b ∷ map access_row x)) none)
 
 pub next_access :
-    (n : ℕ) (ws : List (ℕ × ℕ)) (ts : List TableText) (bs : List BoardText) (b : BoardText) (a : Access)
+    (n : Opener) (ws : List (ℕ × ℕ)) (ts : List TableText) (bs : List BoardText) (b : BoardText) (a : Access)
     → SetupFits (text n ws ts (bs ++ b ∷ [])) → AccessFits a
     → Next (open_rows (text n ws ts (bs ++ b ∷ []))) (access_row a)
 next_access n ws ts bs b a fits f =

@@ -26,7 +26,8 @@ use Rattle.setup_text.specs.Standing.{StandsSoFar}
 use Rattle.setup_text.specs.Grammars.{slot_of, unfit_word, unfit_end, UnfitText, JudgedFirst, JudgedAs, BreaksSetup, setup_grammar}
 use Rattle.setup_text.specs.Reading.{counted, number_at, from_one, number_from_one, this_word, line_ends, name_at}
 use Rattle.setup_text.proofs.LineWords.{number_reads, word_itself}
-use Rattle.setup_text.proofs.Follows.{Follows, word as word_follows, head, next, board, access, ends, follows}
+use Rattle.setup_text.proofs.Follows.{Follows, arbiter, word as word_follows, head, next, board, access, ends, follows}
+use Rattle.setup_text.proofs.SetupAgain.{first_word}
 use Rattle.setup_text.proofs.OneText.{breaks_body}
 
 pub closed_text : IsClosing (text_end ∷ [])
@@ -48,10 +49,6 @@ decimal_same m n a b e =
     let both : ◌≡◌ {A = Option ℕ} (Some m) (Some n) = sym (number_again m a) ∙ (ap number_of e ∙ number_again n b) in cc
 
 -- ---- first words that differ
-
-abbrev pub first_word : Words → List ℕ
-first_word [] = []
-first_word (w ∷ ws) = w
 
 abbrev pub starts : List ℕ → Words → Bool
 starts v l = bytes_eq (first_word l) v
@@ -341,9 +338,31 @@ refused_at s n l rest front ws E k kind h parts begins free r expects at_word at
 
 -- ---- which line begins with a word
 
+pub arbiter_is_free : (s : SetupText) → FirstFree s (codes "arbiter")
+arbiter_is_free s k (inl h) = differ h.0 refl
+arbiter_is_free s k (inr (inl h)) = differ h.0 refl
+arbiter_is_free s k (inr (inr (inl h))) = differ h.0 refl
+arbiter_is_free s k (inr (inr (inr ((events.Read, h), e, x)))) = differ h refl
+arbiter_is_free s k (inr (inr (inr ((events.Write, h), e, x)))) = differ h refl
+arbiter_is_free s k (inr (inr (inr ((events.Pass, h), e, x)))) = differ h refl
+arbiter_is_free s k (inr (inr (inr ((events.Flush, h), e, x)))) = differ h refl
+
+pub only_arbiter :
+    (s : SetupText) (t : Words) (others : List Words) → Follows s (codes "arbiter" ∷ t) others → t ≡ codes "fair" ∷ []
+only_arbiter s t others (arbiter h bare) = cc
+only_arbiter s t others (word_follows w f h a b) = absurd (no_row (codes "arbiter") h refl refl)
+only_arbiter s t others (head name f h b) = absurd (no_row (codes "arbiter") h refl refl)
+only_arbiter s t others (next (board b f h)) = absurd (no_row (codes "arbiter") h refl refl)
+only_arbiter s t others (next (access (accesses.Read x) f h some)) = absurd (no_row (codes "arbiter") h refl refl)
+only_arbiter s t others (next (access (accesses.Write x y) f h some)) = absurd (no_row (codes "arbiter") h refl refl)
+only_arbiter s t others (next (access (accesses.Pass x) f h some)) = absurd (no_row (codes "arbiter") h refl refl)
+only_arbiter s t others (next (access (accesses.Flush x) f h some)) = absurd (no_row (codes "arbiter") h refl refl)
+only_arbiter s t others (next (ends h none)) = absurd (no_row (codes "arbiter") h refl refl)
+
 pub only_word :
     (s : SetupText) (t : Words) (others : List Words) → Follows s (codes "word" ∷ t) others
     → (w : ℕ × ℕ) × WordFits w × (t ≡ decimal w.0 ∷ decimal w.1 ∷ [])
+only_word s t others (arbiter h bare) = absurd (no_row (codes "word") h refl refl)
 only_word s t others (word_follows w f h a b) = (w, f, cc)
 only_word s t others (head name f h b) = absurd (no_row (codes "word") h refl refl)
 only_word s t others (next (board b f h)) = absurd (no_row (codes "word") h refl refl)
@@ -356,6 +375,7 @@ only_word s t others (next (ends h none)) = absurd (no_row (codes "word") h refl
 pub only_head :
     (s : SetupText) (t : Words) (others : List Words) → Follows s (codes "table" ∷ t) others
     → (name : List ℕ) × (is_name name ≡ true) × (t ≡ name ∷ []) × (s.boards ≡ [])
+only_head s t others (arbiter h bare) = absurd (no_row (codes "table") h refl refl)
 only_head s t others (word_follows w f h a b) = absurd (no_row (codes "table") h refl refl)
 only_head s t others (head name f h b) = (name, f, cc, b)
 only_head s t others (next (board b f h)) = absurd (no_row (codes "table") h refl refl)
@@ -368,6 +388,7 @@ only_head s t others (next (ends h none)) = absurd (no_row (codes "table") h ref
 pub only_board :
     (s : SetupText) (t : Words) (others : List Words) → Follows s (codes "board" ∷ t) others
     → (b : BoardText) × BoardFits b × (codes "board" ∷ t ≡ board_row b)
+only_board s t others (arbiter h bare) = absurd (no_row (codes "board") h refl refl)
 only_board s t others (word_follows w f h a b) = absurd (no_row (codes "board") h refl refl)
 only_board s t others (head name f h b) = absurd (no_row (codes "board") h refl refl)
 only_board s t others (next (board b f h)) = (b, f, h)
@@ -378,6 +399,7 @@ only_board s t others (next (access (accesses.Flush x) f h some)) = absurd (no_r
 only_board s t others (next (ends h none)) = absurd (no_row (codes "board") h refl refl)
 
 pub only_end : (s : SetupText) (t : Words) (others : List Words) → Follows s (codes "end" ∷ t) others → t ≡ []
+only_end s t others (arbiter h bare) = absurd (no_row (codes "end") h refl refl)
 only_end s t others (word_follows w f h a b) = absurd (no_row (codes "end") h refl refl)
 only_end s t others (head name f h b) = absurd (no_row (codes "end") h refl refl)
 only_end s t others (next (board b f h)) = absurd (no_row (codes "end") h refl refl)
@@ -425,9 +447,17 @@ event_no_word events.Write h = differ h refl
 event_no_word events.Pass h = differ h refl
 event_no_word events.Flush h = differ h refl
 
+event_no_arbiter : (event : LocalEvent) → local_event_word event ≡ codes "arbiter" → ⊥
+event_no_arbiter events.Read h = differ h refl
+event_no_arbiter events.Write h = differ h refl
+event_no_arbiter events.Pass h = differ h refl
+event_no_arbiter events.Flush h = differ h refl
+
 pub only_access :
     (s : SetupText) (event : LocalEvent) (t : Words) (others : List Words)
     → Follows s (local_event_word event ∷ t) others → EventTail event t × (0 < length s.boards)
+only_access s event t others (arbiter h bare) =
+    absurd (no_event_row event (codes "arbiter") t (codes "fair" ∷ []) (event_no_arbiter event) h)
 only_access s event t others (word_follows w f h a b) =
     let x = no_event_row event (codes "word") t (decimal w.0 ∷ decimal w.1 ∷ []) (event_no_word event) h in absurd x
 only_access s event t others (head name f h b) =

@@ -4,7 +4,7 @@ use Rattle.std.specs.Prelude.{codes}
 use Rattle.table_check.specs.declared.boards.BoardSpec.{BoardSpec}
 use Rattle.fb_text.specs.Places.{Words}
 use Rattle.fb_text.specs.Lines.{is_empty}
-use Rattle.fb_text.specs.Unread.{Unread, Line, first, has_line, at_next_line}
+use Rattle.fb_text.specs.Unread.{Unread, Line, first, has_line, at_next_line, after_word}
 use Rattle.class_relation.specs.Tables.{Table, empty_table}
 use Rattle.setup.specs.Setup.{Setup}
 use Rattle.table_text.specs.Reading.{◌>>=◌, StaysOnLine, table_line, table_at}
@@ -14,7 +14,7 @@ use Rattle.setup_text.specs.declared.fault.SetupFault.TheVariants as faults
 use Rattle.setup_text.specs.declared.fault.SetupKind.{SetupKind}
 use Rattle.setup_text.specs.declared.fault.SetupKind.TheVariants.{UnknownWord, NoEnd}
 use Rattle.setup_text.specs.Drafts.{with_table}
-use Rattle.setup_text.specs.Reading.{Mode, start, body, in_table, ended, BookMode, Fault, Gives, Fails, FailsAs, Answers, GoesOn, on_line, then_lines, this_word, head_name, head_line, line_ends, table_head, book_head, whole_table, as_setup_fault, first_line, line_at, lines_at, text_ends, book_line, book_lines, book_ends, place_in, places_on, schedule_lines, as_setup_kind, after_table_line, after_book_line, mode_after}
+use Rattle.setup_text.specs.Reading.{Mode, start, body, in_table, ended, BookMode, Fault, Gives, Fails, FailsAs, Answers, GoesOn, on_line, then_lines, this_word, head_name, head_line, line_ends, table_head, book_head, whole_table, as_setup_fault, first_line, body_line, line_at, lines_at, text_ends, book_line, book_lines, book_ends, place_in, places_on, schedule_lines, as_setup_kind, after_table_line, after_book_line, mode_after}
 use Rattle.setup_text.proofs.TableLines.{through_lines}
 
 abbrev at : ℕ → Words → List Line → ℕ → Unread
@@ -56,6 +56,17 @@ pub line_fails :
     → FailsAs fault total
 line_fails lines faults.NoMemory u read total e given = tt
 line_fails lines (faults.Bad line kind) u read total e given = sym e ∙ rw (given.0, given.1) refl
+
+-- a line of which the first word was read
+pub line_of_word :
+    (setup draft : Setup) (r : Result Bool SetupFault) (n : ℕ) (ws : Words) (ls : List Line) (end : ℕ)
+    (v left : Unread) (w : List ℕ) → Some w ≡ first ws → v ≡ after_word (at n ws ls end)
+    → GoesOn lines_at (mode_after draft) r left (then_lines lines_at v (body_line setup (w ∷ v.words)))
+    → GoesOn lines_at (mode_after draft) r left (then_lines lines_at (at n ws ls end) (body_line setup ws))
+line_of_word setup draft r n [] ls end v left w e h g = absurd cc
+line_of_word setup draft r n (x ∷ ws) ls end v left w e h g =
+    let same : w ≡ x = cc in
+    rw (same, h) at g
 
 -- the same where what follows is known
 pub goes_on_to :

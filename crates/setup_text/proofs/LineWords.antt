@@ -417,7 +417,7 @@ shape_reads plain (Cached m n) rest fits is =
 pub record ReadsFront (boards : List BoardSpec) (ws : Words) (x : ℕ × Words) : Type 0 where
   pub words : ws ≡ decimal (length boards + 1) ∷ codes "number" ∷ decimal x.0 ∷ x.1
   pub low : 1 ≤ x.0
-  pub high : x.0 ≤ 255
+  pub high : x.0 ≤ 1023
   pub new : has_number boards x.0 ≡ false
 
 pub front_read :
@@ -425,17 +425,17 @@ pub front_read :
 unfolding board_front place_at board_number_at
 front_read boards ws x e =
     let a = binds (number_at 4294967295 ws >>= next_place (length boards))
-    (λ number. this_word (codes "number") number >>= λ after. number_from_one 255 after >>= new_number boards) x e
+    (λ number. this_word (codes "number") number >>= λ after. number_from_one 1023 after >>= new_number boards) x e
     in
     let p = binds (number_at 4294967295 ws) (next_place (length boards)) a.value a.here in
-    let b = binds (this_word (codes "number") a.value) (λ after. number_from_one 255 after >>= new_number boards) x
+    let b = binds (this_word (codes "number") a.value) (λ after. number_from_one 1023 after >>= new_number boards) x
     a.then in
-    let n = binds (number_from_one 255 b.value) (new_number boards) x b.then in
+    let n = binds (number_from_one 1023 b.value) (new_number boards) x b.then in
     let place = number_read 4294967295 ws p.value (omega arith) p.here in
     let next = passes (eqb p.value.0 (length boards + 1)) p.value.1 a.value Number p.then in
     let is : p.value.0 ≡ length boards + 1 = eqb-true p.value.0 (length boards + 1) next.0 in
     let word = word_read (codes "number") a.value b.value b.here in
-    let number = from_one_read 255 b.value n.value (omega arith) n.here in
+    let number = from_one_read 1023 b.value n.value (omega arith) n.here in
     let test = fails_not (has_number boards n.value.0) n.value x TwiceNumber n.then in
     subst (ReadsFront boards ws) test.1 (record {
       words =
@@ -449,7 +449,7 @@ front_read boards ws x e =
     })
 
 pub front_reads :
-    (boards : List BoardSpec) (number : ℕ) (rest : Words) → length boards < 16 → 1 ≤ number → number ≤ 255
+    (boards : List BoardSpec) (number : ℕ) (rest : Words) → length boards < 16 → 1 ≤ number → number ≤ 1023
     → has_number boards number ≡ false
     → board_front boards (decimal (length boards + 1) ∷ codes "number" ∷ decimal number ∷ rest) ≡ Ok (number, rest)
 unfolding board_front place_at board_number_at
@@ -458,7 +458,7 @@ front_reads boards number rest few low high new =
       number_reads 4294967295 (length boards + 1) (codes "number" ∷ decimal number ∷ rest) (omega arith)
           (omega arith),
       same (length boards + 1),
-      from_one_reads 255 number rest low high (omega arith),
+      from_one_reads 1023 number rest low high (omega arith),
       new,
     )
     refl

@@ -1,6 +1,7 @@
 -- A line that is spelled is read as what it spells.
 use Rattle.std.proofs.Common.{◌≡◌, ℕ, ◌+◌, ◌*◌, ◌<◌, ◌≤◌, ◌^◌, Bool, true, false, ltb, List, [], ◌∷◌, ◌++◌, length, map, Some, None, Ok, refl, arith}
 use Rattle.std.specs.Prelude.{codes, decimal}
+use Rattle.std.specs.Str.{bytes_eq}
 use Rattle.std.proofs.lemmas.Bool.{le-leb, lt-ltb, ne_eqb, eq-eqb, ltb-true}
 use Rattle.std.proofs.Math.Nat.{mul-le-mul_left}
 use Rattle.fb_text.specs.Lines.{is_empty}
@@ -20,10 +21,10 @@ use Rattle.table_check.specs.declared.boards.Shape.TheVariants.{Plain, Cached}
 use Rattle.table_check.specs.declared.boards.Choose.{Choose}
 use Rattle.table_check.specs.declared.boards.Choose.TheVariants.{First, Round, Seed}
 use Rattle.setup.specs.Setup.{Setup, access_count}
-use Rattle.setup_text.specs.Spelling.{BoardText, memory_row, word_row, head_row, shape_words, choose_words, board_row, access_row, end_row, AccessFits, WordFits, ChooseFits, BoardFits}
+use Rattle.setup_text.specs.Spelling.{BoardText, memory_row, arbiter_row, word_row, head_row, shape_words, choose_words, board_row, access_row, end_row, AccessFits, WordFits, ChooseFits, BoardFits}
 use Rattle.setup_text.specs.Values.{place_of, board_of}
-use Rattle.setup_text.specs.Drafts.{empty_setup, with_word, with_board, with_access, named, found_name}
-use Rattle.setup_text.specs.Reading.{start, body, in_table, ended, number_at, number_from_one, memory_line, address_at, address_line, value_line, access_line, first_line, body_line, line_at, head_name, has_number, place_at, board_number_at, board_front, board_table, table_name_at, shape_at, frames_at, board_back, choose_at, board_line}
+use Rattle.setup_text.specs.Drafts.{empty_setup, with_fair, with_word, with_board, with_access, named, found_name}
+use Rattle.setup_text.specs.Reading.{start, headed, body, in_table, ended, number_at, number_from_one, memory_line, address_at, address_line, value_line, access_line, first_line, arbiter_line, second_line, body_line, line_at, head_name, has_number, place_at, board_number_at, board_front, board_table, table_name_at, shape_at, frames_at, board_back, choose_at, board_line}
 
 not_below : (n least : ℕ) → least ≤ n → ltb n least ≡ false
 not_below n least le = go (ltb n least) refl
@@ -42,11 +43,22 @@ IsFramed (Cached sets ways) = (1 ≤ sets) × (1 ≤ ways) × (sets * ways ≤ 2
 pub number_read : (max n : ℕ) (ws : Words) → n ≤ max → max < 2 ^ 64 → number_at max (decimal n ∷ ws) ≡ Ok (n, ws)
 number_read max n ws low high = rw (number_again n (omega arith), le-leb n max low) refl
 
-pub lines_read : (n : ℕ) → 1 ≤ n → n ≤ 4096 → line_at start (memory_row n) ≡ Ok (body (empty_setup n))
+pub lines_read : (n : ℕ) → 1 ≤ n → n ≤ 4096 → line_at start (memory_row n) ≡ Ok (headed (empty_setup n))
 unfolding first_line memory_line
 lines_read n low high =
     rw (number_read 4294967295 n [] (omega arith) (omega arith), ne_eqb n 0 (λ e. omega arith), not_below 4096 n high)
     refl
+
+pub arbiter_read : (s : Setup) → line_at (headed s) arbiter_row ≡ Ok (body (with_fair s))
+unfolding second_line arbiter_line
+arbiter_read s = refl
+
+-- A line that is no `arbiter` line is read after the `memory` line as after others.
+pub headed_read :
+    (s : Setup) (w : List ℕ) (ws : Words) → bytes_eq w (codes "arbiter") ≡ false
+    → line_at (headed s) (w ∷ ws) ≡ line_at (body s) (w ∷ ws)
+unfolding second_line
+headed_read s w ws h = rw h refl
 
 pub address_read : (bound a : ℕ) (ws : Words) → a < bound → a < 2 ^ 32 → address_at bound (decimal a ∷ ws) ≡ Ok (a, ws)
 unfolding address_at
@@ -146,14 +158,14 @@ number_from_one_read max n ws some low high = rw (number_read max n ws low high,
 
 front_read :
     (boards : List BoardSpec) (place number : ℕ) (ws : Words) → place ≡ length boards + 1 → place < 2 ^ 32 → 1 ≤ number
-    → number ≤ 255 → has_number boards number ≡ false
+    → number ≤ 1023 → has_number boards number ≡ false
     → board_front boards (decimal place ∷ codes "number" ∷ decimal number ∷ ws) ≡ Ok (number, ws)
 unfolding board_front place_at board_number_at
 front_read boards place number ws next low some high new =
     rw (
       number_read 4294967295 place (codes "number" ∷ decimal number ∷ ws) (omega arith) (omega arith),
       eq-eqb place (length boards + 1) next,
-      number_from_one_read 255 number ws some high (omega arith),
+      number_from_one_read 1023 number ws some high (omega arith),
       new,
     ) refl
 

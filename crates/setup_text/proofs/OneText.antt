@@ -15,9 +15,10 @@ use Rattle.setup_text.specs.Spelling.{TableText, SetupText, head_row, open_table
 use Rattle.setup_text.specs.Values.{tables_of, setup_of}
 use Rattle.setup_text.specs.Standing.{StandsSoFar, TablesStand}
 use Rattle.setup_text.specs.Grammars.{slot_of, JudgedAs, JudgedHead, BreaksSetup, BreaksBook, kind_of}
-use Rattle.setup_text.specs.Reading.{Mode, start, body, in_table, BookMode, whole, within, head_line, body_line, as_setup_kind, after_table_line, after_book_line}
+use Rattle.setup_text.specs.Reading.{Mode, start, headed, body, in_table, BookMode, whole, within, head_line, body_line, as_setup_kind, after_table_line, after_book_line}
 use Rattle.setup_text.proofs.LineWords.{ok_same}
-use Rattle.setup_text.proofs.SetupAgain.{rows_at, rows_append, so_far_runs}
+use Rattle.setup_text.proofs.Parts.{is_bare}
+use Rattle.setup_text.proofs.SetupAgain.{rows_at, rows_append, mode_so_far, so_far_rows, so_far_runs}
 use Rattle.setup_text.proofs.Books as books
 
 -- ---- lines of tables
@@ -120,24 +121,40 @@ open_mode setup t m e = go (is_empty setup.boards) e
     go false e = absurd cc
     go true e = name (head_line setup.tables (t.name ∷ [])) e
 
+-- reading stands in no table after the lines of a setup
+no_table : (s : SetupText) (v : Setup) (u : Table) → mode_so_far s ≡ in_table v u → ⊥
+no_table s v u e = go (is_bare s) e
+  where
+    go : (b : Bool) → cond b (headed (setup_of s)) (body (setup_of s)) ≡ in_table v u → ⊥
+    go true e = cc
+    go false e = cc
+
 not_open :
     (s r : SetupText) (t : TableText) → StandsSoFar s → StandsSoFar r → open_rows s ≡ open_rows r ++ open_table_rows t
     → ⊥
 not_open s r t hs hr e =
-    let run : (rows_at start (open_rows r) >>= λ k. rows_at k (open_table_rows t)) ≡ Ok (body (setup_of s)) =
+    let run : (rows_at start (open_rows r) >>= λ k. rows_at k (open_table_rows t)) ≡ Ok (mode_so_far s) =
     sym (rows_append start (open_rows r) (open_table_rows t))
     ∙ (ap (λ (x : List Words). rows_at start x) (sym e) ∙ so_far_runs s hs) in
-    let there : rows_at (body (setup_of r)) (open_table_rows t) ≡ Ok (body (setup_of s)) =
+    let there : rows_at (mode_so_far r) (open_table_rows t) ≡ Ok (mode_so_far s) =
     rw (so_far_runs r hr) at run in
-    let m = open_mode (setup_of r) t (body (setup_of s)) there in
-    let both : body (setup_of s) ≡ in_table m.0 m.1 = m.2 in
-    cc
+    let m = open_mode (setup_of r) t (mode_so_far s) (sym (so_far_rows r (open_table_rows t) refl) ∙ there) in
+    no_table s m.0 m.1 m.2
 
 one_value : (s r : SetupText) → StandsSoFar s → StandsSoFar r → open_rows s ≡ open_rows r → setup_of s ≡ setup_of r
 one_value s r hs hr e =
-    let both : ◌≡◌ {A = Result Mode SetupKind} (Ok (body (setup_of s))) (Ok (body (setup_of r))) =
+    let both : ◌≡◌ {A = Result Mode SetupKind} (Ok (mode_so_far s)) (Ok (mode_so_far r)) =
     sym (so_far_runs s hs) ∙ (ap (λ (x : List Words). rows_at start x) e ∙ so_far_runs r hr) in
-    cc
+    go (is_bare s) (is_bare r) (ok_same (mode_so_far s) (mode_so_far r) both)
+  where
+    go :
+        (a b : Bool)
+        → cond a (headed (setup_of s)) (body (setup_of s)) ≡ cond b (headed (setup_of r)) (body (setup_of r))
+        → setup_of s ≡ setup_of r
+    go true true e = cc
+    go true false e = cc
+    go false true e = cc
+    go false false e = cc
 
 -- what a side condition after the lines of a setup says of that setup
 pub breaks_body :

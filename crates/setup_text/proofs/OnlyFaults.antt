@@ -196,6 +196,7 @@ setup_more m [] end n setup e = go m e
         (m : Mode) → text_ends m end ≡ Ok setup
         → lines_at m (extra n ∷ []) end ≡ Err (record { line = n; kind = UnknownWord })
     go Mode.start e = absurd cc
+    go (Mode.headed s) e = absurd cc
     go (Mode.body s) e = absurd cc
     go (Mode.in_table s t) e = absurd cc
     go (Mode.ended s) e = refl

@@ -1,8 +1,9 @@
 -- A setup that stands so far: its parts, line by line.
-use Rattle.std.proofs.Common.{◌≡◌, ℕ, ◌+◌, ◌*◌, ◌/◌, ◌<◌, ◌≤◌, ◌^◌, false, List, [], ◌∷◌, ◌++◌, map, length, set, replicate, None, refl, sym, ap, subst, ◌∙◌, append_assoc, arith, All}
+use Rattle.std.proofs.Common.{◌≡◌, ℕ, ◌+◌, ◌*◌, ◌/◌, ◌<◌, ◌≤◌, ◌^◌, Bool, true, false, not, ◌&&◌, List, [], ◌∷◌, ◌++◌, map, length, set, replicate, None, refl, sym, ap, subst, ◌∙◌, append_assoc, arith, All}
 use Rattle.std.specs.List.{AllByRecursion, flat_map}
 use Rattle.std.proofs.lemmas.List.{length-set, length-append, length-map, map-append, append-nil, length-replicate}
 use Rattle.std.proofs.lemmas.List.Elements.{All-set, All-replicate}
+use Rattle.fb_text.specs.Lines.{is_empty}
 use Rattle.fb_text.specs.Places.{Words}
 use Rattle.bus_signals.specs.declared.Access.{Access}
 use Rattle.bus_signals.specs.Accesses.{address_of}
@@ -11,7 +12,7 @@ use Rattle.table_check.specs.declared.boards.BoardSpec.{BoardSpec}
 use Rattle.setup.specs.Setup.{Setup, WellFormed, line_count, access_count}
 use Rattle.setup.specs.Setup as checked
 use Rattle.table_text.specs.Spelling.{CellLine, entered, all_entered, table_of}
-use Rattle.setup_text.specs.Spelling.{TableText, BoardText, SetupText, memory_row, word_row, board_row, access_row, table_rows, board_rows, tables_rows, open_rows, AccessFits, WordFits, TableFits, BoardFits}
+use Rattle.setup_text.specs.Spelling.{TableText, BoardText, SetupText, memory_row, arbiter_rows, word_row, board_row, access_row, table_rows, board_rows, tables_rows, open_rows, AccessFits, WordFits, TableFits, BoardFits}
 use Rattle.setup_text.specs.Values.{words_set, memory_of, tables_of, board_of, setup_of}
 use Rattle.setup_text.specs.Standing.{CellsStand, InPlaces, StandsSoFar, SetupStands}
 use Rattle.setup_text.specs.Drafts.{named, found_name, with_board, with_access, IsDraft, AreTables}
@@ -19,11 +20,44 @@ use Rattle.setup_text.specs.Reading.{has_number}
 use Rattle.setup_text.proofs.Growing.{each_push, each_before, board_keeps, board_before, access_before, access_at_end}
 use Rattle.setup_text.proofs.Drafts.{tables_push, access_keeps}
 
-abbrev pub text : ℕ → List (ℕ × ℕ) → List TableText → List BoardText → SetupText
-text n ws ts bs = record { lines = n; words = ws; tables = ts; boards = bs }
+-- The first lines of a setup: the number of lines of memory, and whether there is an `arbiter` line.
+abbrev pub Opener : Type 0
+Opener = ℕ × Bool
+
+abbrev pub opener_rows : Opener → List Words
+opener_rows n = memory_row n.0 ∷ arbiter_rows n.1
+
+abbrev pub text : Opener → List (ℕ × ℕ) → List TableText → List BoardText → SetupText
+text n ws ts bs = record { lines = n.0; fair = n.1; words = ws; tables = ts; boards = bs }
 
 abbrev pub table_text : List ℕ → List CellLine → TableText
 table_text name cells = record { name = name; cells = cells }
+
+-- A setup with its `memory` line alone.
+abbrev pub is_bare : SetupText → Bool
+is_bare s = not s.fair && (is_empty s.words && (is_empty s.tables && is_empty s.boards))
+
+pub past_words : (n : Opener) (ws : List (ℕ × ℕ)) (w : ℕ × ℕ) → is_bare (text n (ws ++ w ∷ []) [] []) ≡ false
+past_words (k, true) ws w = refl
+past_words (k, false) [] w = refl
+past_words (k, false) (v ∷ ws) w = refl
+
+pub past_tables :
+    (n : Opener) (ws : List (ℕ × ℕ)) (ts : List TableText) (t : TableText)
+    → is_bare (text n ws (ts ++ t ∷ []) []) ≡ false
+past_tables (k, true) ws ts t = refl
+past_tables (k, false) [] [] t = refl
+past_tables (k, false) [] (u ∷ ts) t = refl
+past_tables (k, false) (v ∷ ws) ts t = refl
+
+pub past_boards :
+    (n : Opener) (ws : List (ℕ × ℕ)) (ts : List TableText) (bs : List BoardText) (b : BoardText)
+    → is_bare (text n ws ts (bs ++ b ∷ [])) ≡ false
+past_boards (k, true) ws ts bs b = refl
+past_boards (k, false) (v ∷ ws) ts bs b = refl
+past_boards (k, false) [] (t ∷ ts) bs b = refl
+past_boards (k, false) [] [] [] b = refl
+past_boards (k, false) [] [] (c ∷ bs) b = refl
 
 -- a board with one more access
 abbrev pub and_access : BoardText → Access → BoardText
@@ -37,38 +71,42 @@ flat_push {X} {Y} f (y ∷ xs) x =
     ap (λ (v : List Y). f y ++ v) (flat_push f xs x) ∙ sym (append_assoc (f y) (flat_map f xs) (f x))
 
 pub rows_word :
-    (n : ℕ) (ws : List (ℕ × ℕ)) (w : ℕ × ℕ)
+    (n : Opener) (ws : List (ℕ × ℕ)) (w : ℕ × ℕ)
     → open_rows (text n (ws ++ w ∷ []) [] []) ≡ open_rows (text n ws [] []) ++ word_row w ∷ []
 rows_word n ws w =
-    ap (λ (v : List Words). memory_row n ∷ v)
+    ap (λ (v : List Words). opener_rows n ++ v)
     (append-nil (map word_row (ws ++ w ∷ []))
     ∙ (map-append word_row ws (w ∷ [])
     ∙ ap (λ (v : List Words). v ++ word_row w ∷ []) (sym (append-nil (map word_row ws)))))
+    ∙ sym (append_assoc (opener_rows n) (map word_row ws ++ []) (word_row w ∷ []))
 
 pub rows_table :
-    (n : ℕ) (ws : List (ℕ × ℕ)) (ts : List TableText) (t : TableText)
+    (n : Opener) (ws : List (ℕ × ℕ)) (ts : List TableText) (t : TableText)
     → open_rows (text n ws (ts ++ t ∷ []) []) ≡ open_rows (text n ws ts []) ++ table_rows t
 rows_table n ws ts t =
     let one : tables_rows (ts ++ t ∷ []) ++ [] ≡ (tables_rows ts ++ []) ++ table_rows t =
     append-nil (tables_rows (ts ++ t ∷ []))
     ∙ (flat_push table_rows ts t ∙ ap (λ (v : List Words). v ++ table_rows t) (sym (append-nil (tables_rows ts))))
     in
-    ap (λ (v : List Words). memory_row n ∷ v)
+    ap (λ (v : List Words). opener_rows n ++ v)
     (ap (λ (v : List Words). map word_row ws ++ v) one
     ∙ sym (append_assoc (map word_row ws) (tables_rows ts ++ []) (table_rows t)))
+    ∙ sym (append_assoc (opener_rows n) (map word_row ws ++ (tables_rows ts ++ [])) (table_rows t))
 
 pub rows_board :
-    (n : ℕ) (ws : List (ℕ × ℕ)) (ts : List TableText) (bs : List BoardText) (b : BoardText)
+    (n : Opener) (ws : List (ℕ × ℕ)) (ts : List TableText) (bs : List BoardText) (b : BoardText)
     → open_rows (text n ws ts (bs ++ b ∷ [])) ≡ open_rows (text n ws ts bs) ++ board_rows b
 rows_board n ws ts bs b =
     let one : flat_map board_rows (bs ++ b ∷ []) ≡ flat_map board_rows bs ++ board_rows b = flat_push board_rows bs b in
-    ap (λ (v : List Words). memory_row n ∷ v) (ap (λ (v : List Words). map word_row ws ++ (tables_rows ts ++ v)) one
+    ap (λ (v : List Words). opener_rows n ++ v)
+    (ap (λ (v : List Words). map word_row ws ++ (tables_rows ts ++ v)) one
     ∙ (ap (λ (v : List Words). map word_row ws ++ v)
     (sym (append_assoc (tables_rows ts) (flat_map board_rows bs) (board_rows b)))
     ∙ sym (append_assoc (map word_row ws) (tables_rows ts ++ flat_map board_rows bs) (board_rows b))))
+    ∙ sym (append_assoc (opener_rows n) (map word_row ws ++ (tables_rows ts ++ flat_map board_rows bs)) (board_rows b))
 
 pub rows_access :
-    (n : ℕ) (ws : List (ℕ × ℕ)) (ts : List TableText) (bs : List BoardText) (b : BoardText) (a : Access)
+    (n : Opener) (ws : List (ℕ × ℕ)) (ts : List TableText) (bs : List BoardText) (b : BoardText) (a : Access)
     → open_rows (text n ws ts (bs ++ and_access b a ∷ []))
     ≡ open_rows (text n ws ts (bs ++ b ∷ [])) ++ access_row a ∷ []
 rows_access n ws ts bs b a =
@@ -107,13 +145,13 @@ lines_are n ws = omega (arith, memory_long n ws)
 -- ---- without boards
 
 pub no_boards_draft :
-    (n : ℕ) (ws : List (ℕ × ℕ)) (ts : List TableText) → 1 ≤ n → n ≤ 4096 → AllByRecursion WordFits ws
+    (n : Opener) (ws : List (ℕ × ℕ)) (ts : List TableText) → 1 ≤ n.0 → n.0 ≤ 4096 → AllByRecursion WordFits ws
     → AreTables (tables_of ts) → IsDraft (setup_of (text n ws ts []))
 no_boards_draft n ws ts low high fits are = record {
-  memory = omega (arith, memory_long n ws, lines_are n ws);
-  words = memory_small n ws fits;
-  lines_low = omega (arith, lines_are n ws);
-  lines_high = omega (arith, lines_are n ws);
+  memory = omega (arith, memory_long n.0 ws, lines_are n.0 ws);
+  words = memory_small n.0 ws fits;
+  lines_low = omega (arith, lines_are n.0 ws);
+  lines_high = omega (arith, lines_are n.0 ws);
   tables = are;
   boards_high = omega arith;
   boards = λ k d h. absurd (omega arith);
@@ -129,7 +167,7 @@ lines_of_draft s d = let same = lines_are s.lines s.words in (omega (arith, d.li
 pub no_tables : AreTables []
 no_tables = record { few = omega arith; names = λ i j d low high. absurd (omega arith) }
 
-pub stands_memory : (n : ℕ) → 1 ≤ n → n ≤ 4096 → StandsSoFar (text n [] [] [])
+pub stands_memory : (n : Opener) → 1 ≤ n.0 → n.0 ≤ 4096 → StandsSoFar (text n [] [] [])
 stands_memory n low high = record {
   fits = record { lines = omega arith; words = tt; tables = tt; boards = tt };
   addresses = tt;
@@ -139,26 +177,26 @@ stands_memory n low high = record {
 }
 
 pub stands_word :
-    (n : ℕ) (ws : List (ℕ × ℕ)) (w : ℕ × ℕ) → StandsSoFar (text n ws [] []) → WordFits w → w.0 < 4 * n
+    (n : Opener) (ws : List (ℕ × ℕ)) (w : ℕ × ℕ) → StandsSoFar (text n ws [] []) → WordFits w → w.0 < 4 * n.0
     → StandsSoFar (text n (ws ++ w ∷ []) [] [])
 stands_word n ws w s fits low =
     let lines = lines_of_draft (text n ws [] []) s.sound in
     let words = each_push WordFits ws w s.fits.words fits in
     record {
       fits = record { lines = s.fits.lines; words = words; tables = tt; boards = tt };
-      addresses = each_push (λ w. w.0 < 4 * n) ws w s.addresses low;
+      addresses = each_push (λ w. w.0 < 4 * n.0) ws w s.addresses low;
       cells = tt;
       places = tt;
       sound = no_boards_draft n (ws ++ w ∷ []) [] lines.0 lines.1 words no_tables;
     }
 
 pub before_word :
-    (n : ℕ) (ws : List (ℕ × ℕ)) (w : ℕ × ℕ) → StandsSoFar (text n (ws ++ w ∷ []) [] [])
-    → StandsSoFar (text n ws [] []) × WordFits w × (w.0 < 4 * n)
+    (n : Opener) (ws : List (ℕ × ℕ)) (w : ℕ × ℕ) → StandsSoFar (text n (ws ++ w ∷ []) [] [])
+    → StandsSoFar (text n ws [] []) × WordFits w × (w.0 < 4 * n.0)
 before_word n ws w s =
     let lines = lines_of_draft (text n (ws ++ w ∷ []) [] []) s.sound in
     let words = each_before WordFits ws w s.fits.words in
-    let low = each_before (λ w. w.0 < 4 * n) ws w s.addresses in (
+    let low = each_before (λ w. w.0 < 4 * n.0) ws w s.addresses in (
       record {
         fits = record { lines = s.fits.lines; words = words.0; tables = tt; boards = tt };
         addresses = low.0;
@@ -200,7 +238,7 @@ tables_grow ts t are h =
     (ap (found_name (map named (tables_of ts))) (table_name t.name t.cells) ∙ h.new))
 
 pub stands_table :
-    (n : ℕ) (ws : List (ℕ × ℕ)) (ts : List TableText) (t : TableText) → StandsSoFar (text n ws ts [])
+    (n : Opener) (ws : List (ℕ × ℕ)) (ts : List TableText) (t : TableText) → StandsSoFar (text n ws ts [])
     → TableStands (tables_of ts) t → StandsSoFar (text n ws (ts ++ t ∷ []) [])
 stands_table n ws ts t s h =
     let lines = lines_of_draft (text n ws ts []) s.sound in
@@ -224,13 +262,13 @@ abbrev pub spec_of : List TableText → BoardText → BoardSpec
 spec_of ts b = board_of (tables_of ts) b
 
 pub setup_board :
-    (n : ℕ) (ws : List (ℕ × ℕ)) (ts : List TableText) (bs : List BoardText) (b : BoardText) → b.script ≡ []
+    (n : Opener) (ws : List (ℕ × ℕ)) (ts : List TableText) (bs : List BoardText) (b : BoardText) → b.script ≡ []
     → setup_of (text n ws ts (bs ++ b ∷ [])) ≡ with_board (setup_of (text n ws ts bs)) (spec_of ts b)
 setup_board n ws ts bs b none =
     let boards = map-append (board_of (tables_of ts)) bs (b ∷ []) in
     let scripts = map-append (λ (b : BoardText). b.script) bs (b ∷ [])
     ∙ ap (λ (x : List Access). map (λ (b : BoardText). b.script) bs ++ x ∷ []) none in
-    λ i. record { memory = memory_of n ws; tables = tables_of ts; boards = boards i; scripts = scripts i }
+    λ i. record { memory = memory_of n.0 ws; fair = n.1; tables = tables_of ts; boards = boards i; scripts = scripts i }
 
 pub places_push :
     (n : ℕ) (bs : List BoardText) (b : BoardText) → InPlaces n bs → b.place ≡ n + length bs → InPlaces n (bs ++ b ∷ [])
@@ -244,7 +282,7 @@ places_before n [] b h = (tt, omega (arith, h.0))
 places_before n (c ∷ bs) b h = let rest = places_before (n + 1) bs b h.1 in ((h.0, rest.0), omega (arith, rest.1))
 
 pub stands_board :
-    (n : ℕ) (ws : List (ℕ × ℕ)) (ts : List TableText) (bs : List BoardText) (b : BoardText)
+    (n : Opener) (ws : List (ℕ × ℕ)) (ts : List TableText) (bs : List BoardText) (b : BoardText)
     → StandsSoFar (text n ws ts bs) → b.script ≡ [] → BoardFits b → b.place ≡ length bs + 1 → length bs < 16
     → checked.BoardFits (setup_of (text n ws ts bs)) (spec_of ts b)
     → has_number (setup_of (text n ws ts bs)).boards b.number ≡ false → StandsSoFar (text n ws ts (bs ++ b ∷ []))
@@ -267,7 +305,7 @@ stands_board n ws ts bs b s none fits place few sound new =
     }
 
 pub before_board :
-    (n : ℕ) (ws : List (ℕ × ℕ)) (ts : List TableText) (bs : List BoardText) (b : BoardText) → b.script ≡ []
+    (n : Opener) (ws : List (ℕ × ℕ)) (ts : List TableText) (bs : List BoardText) (b : BoardText) → b.script ≡ []
     → StandsSoFar (text n ws ts (bs ++ b ∷ []))
     → StandsSoFar (text n ws ts bs) × BoardFits b × (b.place ≡ length bs + 1)
     × IsDraft (with_board (setup_of (text n ws ts bs)) (spec_of ts b))
@@ -303,7 +341,7 @@ boards_end ts bs b c e =
     ∙ sym (map-append (board_of (tables_of ts)) bs (c ∷ [])))
 
 pub setup_access :
-    (n : ℕ) (ws : List (ℕ × ℕ)) (ts : List TableText) (bs : List BoardText) (b : BoardText) (a : Access)
+    (n : Opener) (ws : List (ℕ × ℕ)) (ts : List TableText) (bs : List BoardText) (b : BoardText) (a : Access)
     → setup_of (text n ws ts (bs ++ and_access b a ∷ [])) ≡ with_access (setup_of (text n ws ts (bs ++ b ∷ []))) a
 setup_access n ws ts bs b a =
     let boards = boards_end ts bs (and_access b a) b refl in
@@ -311,9 +349,9 @@ setup_access n ws ts bs b a =
     let scripts = scripts_end bs (and_access b a)
     ∙ (sym (access_at_end front b.script a)
     ∙ ap (λ (x : List (List Access)).
-    (with_access (record { memory = []; tables = []; boards = []; scripts = x }) a).scripts)
+    (with_access (record { memory = []; fair = false; tables = []; boards = []; scripts = x }) a).scripts)
     (sym (scripts_end bs b))) in
-    λ i. record { memory = memory_of n ws; tables = tables_of ts; boards = boards i; scripts = scripts i }
+    λ i. record { memory = memory_of n.0 ws; fair = n.1; tables = tables_of ts; boards = boards i; scripts = scripts i }
 
 places_same :
     (n : ℕ) (bs : List BoardText) (b c : BoardText) → b.place ≡ c.place → InPlaces n (bs ++ b ∷ [])
@@ -347,10 +385,10 @@ fits_before b a h =
     )
 
 pub stands_access :
-    (n : ℕ) (ws : List (ℕ × ℕ)) (ts : List TableText) (bs : List BoardText) (b : BoardText) (a : Access)
+    (n : Opener) (ws : List (ℕ × ℕ)) (ts : List TableText) (bs : List BoardText) (b : BoardText) (a : Access)
     → StandsSoFar (text n ws ts (bs ++ b ∷ [])) → AccessFits a
     → access_count (setup_of (text n ws ts (bs ++ b ∷ []))) < 100000
-    → address_of a < length (memory_of n ws) → StandsSoFar (text n ws ts (bs ++ and_access b a ∷ []))
+    → address_of a < length (memory_of n.0 ws) → StandsSoFar (text n ws ts (bs ++ and_access b a ∷ []))
 stands_access n ws ts bs b a s fits few within =
     let boards = each_before BoardFits bs b s.fits.boards in
     let some : 1 ≤ length (map (board_of (tables_of ts)) (bs ++ b ∷ [])) =
@@ -372,23 +410,25 @@ stands_access n ws ts bs b a s fits few within =
     }
 
 pub before_access :
-    (n : ℕ) (ws : List (ℕ × ℕ)) (ts : List TableText) (bs : List BoardText) (b : BoardText) (a : Access)
+    (n : Opener) (ws : List (ℕ × ℕ)) (ts : List TableText) (bs : List BoardText) (b : BoardText) (a : Access)
     → StandsSoFar (text n ws ts (bs ++ and_access b a ∷ []))
     → StandsSoFar (text n ws ts (bs ++ b ∷ [])) × AccessFits a
-    × (access_count (setup_of (text n ws ts (bs ++ b ∷ []))) < 100000) × (address_of a < length (memory_of n ws))
+    × (access_count (setup_of (text n ws ts (bs ++ b ∷ []))) < 100000) × (address_of a < length (memory_of n.0 ws))
 before_access n ws ts bs b a s =
     let boards = each_before BoardFits bs (and_access b a) s.fits.boards in
     let one = fits_before b a boards.1 in
     let front : List (List Access) = map (λ (b : BoardText). b.script) bs in
     let draft : IsDraft (record {
-      memory = memory_of n ws;
+      memory = memory_of n.0 ws;
+      fair = n.1;
       tables = tables_of ts;
       boards = map (board_of (tables_of ts)) (bs ++ b ∷ []);
       scripts = front ++ (b.script ++ a ∷ []) ∷ [];
     }) =
     subst IsDraft (λ i.
     record {
-      memory = memory_of n ws;
+      memory = memory_of n.0 ws;
+      fair = n.1;
       tables = tables_of ts;
       boards = boards_end ts bs (and_access b a) b refl i;
       scripts = scripts_end bs (and_access b a) i;

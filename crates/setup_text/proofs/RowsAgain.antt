@@ -1,9 +1,9 @@
 -- Lines that are spelled are read as what they spell, line after line and part after part.
 use Rattle.std.proofs.Common.{◌≡◌, ◌≢◌, ℕ, suc, ◌+◌, ◌-◌, ◌*◌, ◌<◌, ◌≤◌, Bool, true, false, not, ◌||◌, cond, eqb, List, [], ◌∷◌, ◌++◌, length, map, get_or, replicate, Some, None, Result, Ok, Err, refl, sym, ap, subst, ◌∙◌, append_assoc, arith}
-use Rattle.std.specs.Prelude.{sum_by, All, AllPairs, slice_set}
+use Rattle.std.specs.Prelude.{codes, sum_by, All, AllPairs, slice_set}
 use Rattle.std.specs.List.{flat_map, AllByRecursion}
 use Rattle.std.specs.Str.{bytes_eq}
-use Rattle.std.proofs.lemmas.Bool.{eqb-true}
+use Rattle.std.proofs.lemmas.Bool.{eqb-true, not-true}
 use Rattle.std.proofs.lemmas.List.{append-nil, length-append, length-set, length-map, length-replicate}
 use Rattle.std.proofs.lemmas.List.Sums.{sum_by-cons, sum_by-append}
 use Rattle.std.proofs.lemmas.Slice.Eq.{bytes_eq-Decides}
@@ -27,14 +27,14 @@ use Rattle.table_text.specs.Correct.{AllStand}
 use Rattle.table_text.proofs.TableLaws.{HasAllCells, empty_whole, entered_whole}
 use Rattle.table_text.proofs.Again.{line_again, end_again}
 use Rattle.setup_text.specs.declared.fault.SetupKind.{SetupKind}
-use Rattle.setup_text.specs.Spelling.{TableText, BoardText, SetupText, end_row, memory_row, word_row, head_row, board_row, access_row, table_rows, tables_rows, board_rows, setup_rows, WordFits, AccessFits, TableFits, BoardFits}
+use Rattle.setup_text.specs.Spelling.{TableText, BoardText, SetupText, end_row, memory_row, arbiter_row, arbiter_rows, word_row, head_row, board_row, access_row, table_rows, tables_rows, board_rows, setup_rows, WordFits, AccessFits, TableFits, BoardFits}
 use Rattle.setup_text.specs.Values.{words_set, tables_of, place_of, board_of, setup_of}
 use Rattle.setup_text.specs.Correct.{CellsStand, InPlaces, SetupStands}
-use Rattle.setup_text.specs.Drafts.{empty_setup, with_word, with_table, with_board, with_access, access_added, named, found_name, stays_invalid}
-use Rattle.setup_text.specs.Reading.{start, body, in_table, ended, line_at, has_number}
+use Rattle.setup_text.specs.Drafts.{empty_setup, with_fair, with_word, with_table, with_board, with_access, access_added, named, found_name, stays_invalid}
+use Rattle.setup_text.specs.Reading.{Mode, start, headed, body, in_table, ended, line_at, has_number}
 use Rattle.setup_text.proofs.TableLines.{entered_name}
 use Rattle.setup_text.proofs.WrittenWords.{each}
-use Rattle.setup_text.proofs.LinesAgain.{IsFramed, lines_read, word_read, access_read, end_read, head_read, board_read}
+use Rattle.setup_text.proofs.LinesAgain.{IsFramed, lines_read, arbiter_read, headed_read, word_read, access_read, end_read, head_read, board_read}
 
 -- where reading line after line stands after these lines
 abbrev pub read_rows : {M : Type 0} → (M → Words → Result M SetupKind) → M → List Words → Result M SetupKind
@@ -323,6 +323,33 @@ boards_read s w (b ∷ bs) same fits few places differ there count within =
     ∙ ap (λ (v : List (List Access)).
     Ok (body (record s { boards = s.boards ++ spec ∷ map (board_of s.tables) bs; scripts = v }))) longer))
 
+-- ---- the first lines
+
+-- The first of these lines is there, and is no `arbiter` line.
+abbrev goes_past : List Words → Bool
+goes_past [] = false
+goes_past ([] ∷ ls) = false
+goes_past ((w ∷ ws) ∷ ls) = not (bytes_eq w (codes "arbiter"))
+
+past_opener :
+    (ws : List (ℕ × ℕ)) (ts : List TableText) (bs : List BoardText) → 1 ≤ length bs
+    → goes_past (map word_row ws ++ (tables_rows ts ++ flat_map board_rows bs)) ≡ true
+past_opener (w ∷ ws) ts bs some = refl
+past_opener [] (t ∷ ts) bs some = refl
+past_opener [] [] (b ∷ bs) some = refl
+past_opener [] [] [] some = absurd (omega (arith, some))
+
+opener_read :
+    (s : Setup) (fair : Bool) (ls : List Words) → s.fair ≡ false → goes_past ls ≡ true
+    → read_rows line_at (headed s) (arbiter_rows fair ++ ls) ≡ read_rows line_at (body (record s { fair = fair })) ls
+opener_read s true ls e h = row_then line_at (headed s) (body (with_fair s)) arbiter_row ls (arbiter_read s)
+opener_read s false [] e h = absurd cc
+opener_read s false ([] ∷ ls) e h = absurd cc
+opener_read s false ((w ∷ ws) ∷ ls) e h =
+    ap (λ (x : Result Mode SetupKind). x >>= λ next. read_rows line_at next ls)
+    (headed_read s w ws (not-true (bytes_eq w (codes "arbiter")) h)
+    ∙ ap (λ (x : Bool). line_at (body (record s { fair = x })) (w ∷ ws)) e)
+
 -- ---- a whole setup
 
 words_long : (memory : List ℕ) (ws : List (ℕ × ℕ)) → length (words_set memory ws) ≡ length memory
@@ -346,7 +373,9 @@ setup_read t h =
     let four = h.sound.memory in
     let low = h.sound.lines_low in
     let high = h.sound.lines_high in
-    let words : Setup = record { memory = words_set zeros t.words; tables = []; boards = []; scripts = [] } in
+    let opened : Setup = record (empty_setup n) { fair = t.fair } in
+    let words : Setup =
+    record { memory = words_set zeros t.words; fair = t.fair; tables = []; boards = []; scripts = [] } in
     let tables : Setup = record words { tables = tables_of t.tables } in
     let all : Setup = setup_of t in
     let w : List Words = map word_row t.words in
@@ -358,10 +387,12 @@ setup_read t h =
     let few_accesses = h.sound.accesses in
     let of_tables = length-map t.tables (λ (x : TableText). table_of x.name x.cells) in
     let of_boards = length-map t.boards (board_of (tables_of t.tables)) in
-    let first = row_then line_at start (body (empty_setup n)) (memory_row n) ((w ++ (ts ++ bs)) ++ end_row ∷ [])
-    (lines_read n (omega arith) (omega arith)) in
-    let second = rows_then line_at (body (empty_setup n)) (body words) w (ts ++ bs)
-    (words_read (empty_setup n) t.words refl refl
+    let first = row_then line_at start (headed (empty_setup n)) (memory_row n)
+    ((arbiter_rows t.fair ++ (w ++ (ts ++ bs))) ++ end_row ∷ []) (lines_read n (omega arith) (omega arith)) in
+    let opener = opener_read (empty_setup n) t.fair (w ++ (ts ++ bs)) refl
+    (past_opener t.words t.tables t.boards (omega arith)) in
+    let second = rows_then line_at (body opened) (body words) w (ts ++ bs)
+    (words_read opened t.words refl refl
     (subst (λ (k : ℕ). AllByRecursion (λ (w : ℕ × ℕ). w.0 < k) t.words) (sym long) h.addresses) h.fits.words) in
     let third = rows_then line_at (body words) (body tables) ts bs
     (tables_read words t.tables refl (omega arith) h.fits.tables h.cells h.sound.names) in
@@ -370,6 +401,6 @@ setup_read t h =
     (each_of_each (λ a. address_of a < length all.memory) all.scripts
     (each (All (λ a. address_of a < length all.memory)) all.scripts h.sound.addresses)) in
     first
-    ∙ (rows_then line_at (body (empty_setup n)) (body all) (w ++ (ts ++ bs)) (end_row ∷ [])
-    (second ∙ (third ∙ fourth))
+    ∙ (rows_then line_at (headed (empty_setup n)) (body all) (arbiter_rows t.fair ++ (w ++ (ts ++ bs))) (end_row ∷ [])
+    (opener ∙ (second ∙ (third ∙ fourth)))
     ∙ row_then line_at (body all) (ended all) end_row [] (end_read all some_boards))

@@ -1,9 +1,9 @@
 -- Each line of a setup that stands is read as what it spells.
-use Rattle.std.proofs.Common.{◌≡◌, ◌≢◌, ℕ, zero, suc, ◌+◌, ◌*◌, ◌<◌, ◌≤◌, ◌⊎◌, inl, inr, Bool, true, false, cond, List, [], ◌∷◌, ◌++◌, map, length, get_or, Some, None, Result, Ok, Err, refl, sym, ap, subst, ◌∙◌, append_assoc, arith}
-use Rattle.std.specs.Prelude.{codes, decimal}
+use Rattle.std.proofs.Common.{◌≡◌, ◌≢◌, ℕ, zero, suc, ◌+◌, ◌*◌, ◌<◌, ◌≤◌, ◌⊎◌, inl, inr, Bool, true, false, not, cond, List, [], ◌∷◌, ◌++◌, map, length, get_or, Some, None, Result, Ok, Err, refl, sym, ap, subst, ◌∙◌, append_assoc, arith}
+use Rattle.std.specs.Prelude.{codes, decimal, if◌then◌else◌}
 use Rattle.std.specs.List.{AllByRecursion}
 use Rattle.std.specs.Str.{bytes_eq}
-use Rattle.std.proofs.lemmas.Bool.{lt-ltb}
+use Rattle.std.proofs.lemmas.Bool.{lt-ltb, not-true}
 use Rattle.std.proofs.lemmas.List.{length-append, length-map, map-append, append-nil, get_or_append_left}
 use Rattle.std.proofs.lemmas.Slice.Eq.{bytes_eq-Decides}
 use Rattle.fb_text.specs.Lines.{is_empty}
@@ -13,6 +13,7 @@ use Rattle.fb_text.proofs.LineItems.{empty_or_last}
 use Rattle.moesi_state.specs.declared.State.{State}
 use Rattle.moesi_state.specs.declared.State.TheVariants.{M, O, E, S, I}
 use Rattle.bus_signals.specs.declared.Access.{Access}
+use Rattle.bus_signals.specs.declared.Access.TheVariants as accesses
 use Rattle.bus_signals.specs.declared.LocalEvent.{LocalEvent}
 use Rattle.bus_signals.specs.declared.LocalEvent.TheVariants as events
 use Rattle.class_words.specs.Words.{local_event_word, local_event_of}
@@ -30,17 +31,21 @@ use Rattle.table_text.specs.Correct.{AllStand}
 use Rattle.table_text.proofs.TableLaws.{HasAllCells, entered_whole, empty_whole}
 use Rattle.table_text.proofs.Again.{line_again, end_again}
 use Rattle.setup_text.specs.declared.fault.SetupKind.{SetupKind}
-use Rattle.setup_text.specs.Spelling.{TableText, BoardText, SetupText, end_row, memory_row, word_row, head_row, board_row, access_row, shape_words, choose_words, open_table_rows, table_rows, board_rows, tables_rows, open_rows, setup_rows, WordFits, TableFits}
+use Rattle.setup_text.specs.Spelling.{TableText, BoardText, SetupText, end_row, memory_row, arbiter_row, word_row, head_row, board_row, access_row, shape_words, choose_words, open_table_rows, table_rows, board_rows, tables_rows, open_rows, setup_rows, WordFits, TableFits}
 use Rattle.setup_text.specs.Values.{memory_of, tables_of, place_of, board_of, setup_of}
 use Rattle.setup_text.specs.Standing.{CellsStand, StandsSoFar}
 use Rattle.setup_text.specs.Drafts.{named, found_name, stays_invalid, with_table, with_board, AreTables, IsShape}
-use Rattle.setup_text.specs.Reading.{Mode, start, body, in_table, ended, on_line, has_number, first_line, body_line, line_at, lines_at, text_ends, board_line, access_read}
+use Rattle.setup_text.specs.Reading.{Mode, start, headed, body, in_table, ended, on_line, has_number, first_line, arbiter_line, second_line, body_line, line_at, lines_at, text_ends, board_line, access_read}
 use Rattle.setup_text.proofs.LineWords.{memory_reads, value_line_reads, access_reads, shape_reads, front_reads, table_reads, back_reads, head_reads}
 use Rattle.setup_text.proofs.Naming.{found_known}
 use Rattle.setup_text.proofs.Growing.{all_last, pairs_last, new_number_is}
-use Rattle.setup_text.proofs.Parts.{text, and_access, rows_board, rows_access, set_push, memory_long, TableStands, table_name, tables_append, spec_of, setup_board, before_board, setup_access, before_access, lines_of_draft}
+use Rattle.setup_text.proofs.Parts.{Opener, text, is_bare, past_boards, and_access, rows_board, rows_access, set_push, memory_long, TableStands, table_name, tables_append, spec_of, setup_board, before_board, setup_access, before_access, lines_of_draft}
 
 -- ---- a run over rows
+
+abbrev pub first_word : Words → List ℕ
+first_word [] = []
+first_word (w ∷ ws) = w
 
 abbrev pub rows_at : Mode → List Words → Result Mode SetupKind
 rows_at m [] = Ok m
@@ -77,22 +82,83 @@ lines_run m k (l ∷ ls) end e = go (line_at m l.words) e (λ j h. lines_run j k
 
 -- ---- one line
 
-memory_again : (n : ℕ) → 1 ≤ n → n ≤ 4096 → line_at start (memory_row n) ≡ Ok (body (setup_of (text n [] [] [])))
+memory_again :
+    (n : ℕ) → 1 ≤ n → n ≤ 4096
+    → line_at start (memory_row n) ≡ Ok (headed (setup_of (text (n, false) [] [] [])))
 unfolding first_line
 memory_again n low high = rw (memory_reads n low high) refl
 
+arbiter_again :
+    (n : ℕ)
+    → line_at (headed (setup_of (text (n, false) [] [] []))) arbiter_row
+    ≡ Ok (body (setup_of (text (n, true) [] [] [])))
+unfolding second_line arbiter_line
+arbiter_again n = refl
+
+-- A line that is no `arbiter` line is read after the `memory` line as after others.
+headed_line :
+    (setup : Setup) (l : Words) → bytes_eq (first_word l) (codes "arbiter") ≡ false
+    → line_at (headed setup) l ≡ line_at (body setup) l
+unfolding second_line body_line
+headed_line setup [] h = refl
+headed_line setup (w ∷ ws) h = rw h refl
+
+-- The first of these lines is there, and is no `arbiter` line.
+abbrev pub goes_past : List Words → Bool
+goes_past [] = false
+goes_past (l ∷ ls) = not (bytes_eq (first_word l) (codes "arbiter"))
+
+pub headed_rows :
+    (setup : Setup) (ls : List Words) → goes_past ls ≡ true
+    → rows_at (headed setup) ls ≡ rows_at (body setup) ls
+headed_rows setup [] h = absurd cc
+headed_rows setup (l ∷ ls) h =
+    ap (λ (x : Result Mode SetupKind). x >>= λ k. rows_at k ls)
+    (headed_line setup l (not-true (bytes_eq (first_word l) (codes "arbiter")) h))
+
+-- Where reading stands after the lines of a setup so far.
+abbrev pub mode_so_far : SetupText → Mode
+mode_so_far s = if is_bare s then headed (setup_of s) else body (setup_of s)
+
+pub past_mode :
+    (s : SetupText) → is_bare s ≡ false
+    → ◌≡◌ {A = Result Mode SetupKind} (Ok (body (setup_of s))) (Ok (mode_so_far s))
+past_mode s past = rw past refl
+
+pub so_far_line :
+    (s : SetupText) (l : Words) → bytes_eq (first_word l) (codes "arbiter") ≡ false
+    → line_at (mode_so_far s) l ≡ line_at (body (setup_of s)) l
+so_far_line s l h = go (is_bare s)
+  where
+    go :
+        (b : Bool)
+        → line_at (cond b (headed (setup_of s)) (body (setup_of s))) l ≡ line_at (body (setup_of s)) l
+    go true = headed_line (setup_of s) l h
+    go false = refl
+
+pub so_far_rows :
+    (s : SetupText) (ls : List Words) → goes_past ls ≡ true
+    → rows_at (mode_so_far s) ls ≡ rows_at (body (setup_of s)) ls
+so_far_rows s ls h = go (is_bare s)
+  where
+    go :
+        (b : Bool)
+        → rows_at (cond b (headed (setup_of s)) (body (setup_of s))) ls ≡ rows_at (body (setup_of s)) ls
+    go true = headed_rows (setup_of s) ls h
+    go false = refl
+
 word_again :
-    (n : ℕ) (ws : List (ℕ × ℕ)) (w : ℕ × ℕ) → WordFits w → w.0 < 4 * n
+    (n : Opener) (ws : List (ℕ × ℕ)) (w : ℕ × ℕ) → WordFits w → w.0 < 4 * n.0
     → line_at (body (setup_of (text n ws [] []))) (word_row w) ≡ Ok (body (setup_of (text n (ws ++ w ∷ []) [] [])))
 unfolding body_line
 word_again n ws w fits low =
-    let within : w.0 < length (memory_of n ws) = omega (arith, memory_long n ws) in
-    rw (value_line_reads (length (memory_of n ws)) w.0 w.1 within fits.0 fits.1)
-    (ap (λ (x : List ℕ). Ok (body (record { memory = x; tables = []; boards = []; scripts = [] })))
+    let within : w.0 < length (memory_of n.0 ws) = omega (arith, memory_long n.0 ws) in
+    rw (value_line_reads (length (memory_of n.0 ws)) w.0 w.1 within fits.0 fits.1)
+    (ap (λ (x : List ℕ). Ok (body (record { memory = x; fair = n.1; tables = []; boards = []; scripts = [] })))
     (sym (set_push _ ws w)))
 
 head_again :
-    (n : ℕ) (ws : List (ℕ × ℕ)) (ts : List TableText) (t : TableText) → TableStands (tables_of ts) t
+    (n : Opener) (ws : List (ℕ × ℕ)) (ts : List TableText) (t : TableText) → TableStands (tables_of ts) t
     → line_at (body (setup_of (text n ws ts []))) (head_row t.name)
     ≡ Ok (in_table (setup_of (text n ws ts [])) (empty_table t.name))
 unfolding body_line
@@ -108,7 +174,7 @@ cells_again setup t (c ∷ cells) whole h =
     rw (line_again t c whole h.0) (cells_again setup (entered t c) cells (entered_whole t c whole) h.1)
 
 pub open_again :
-    (n : ℕ) (ws : List (ℕ × ℕ)) (ts : List TableText) (t : TableText) → TableStands (tables_of ts) t
+    (n : Opener) (ws : List (ℕ × ℕ)) (ts : List TableText) (t : TableText) → TableStands (tables_of ts) t
     → rows_at (body (setup_of (text n ws ts []))) (open_table_rows t)
     ≡ Ok (in_table (setup_of (text n ws ts [])) (table_of t.name t.cells))
 open_again n ws ts t h =
@@ -116,7 +182,7 @@ open_again n ws ts t h =
     (cells_again (setup_of (text n ws ts [])) (empty_table t.name) t.cells (empty_whole t.name) h.cells)
 
 table_again :
-    (n : ℕ) (ws : List (ℕ × ℕ)) (ts : List TableText) (t : TableText) → TableStands (tables_of ts) t
+    (n : Opener) (ws : List (ℕ × ℕ)) (ts : List TableText) (t : TableText) → TableStands (tables_of ts) t
     → rows_at (body (setup_of (text n ws ts []))) (table_rows t) ≡ Ok (body (setup_of (text n ws (ts ++ t ∷ []) [])))
 table_again n ws ts t h =
     let closes : line_at (in_table (setup_of (text n ws ts [])) (table_of t.name t.cells)) end_row
@@ -125,7 +191,9 @@ table_again n ws ts t h =
     rows_push (body (setup_of (text n ws ts []))) (in_table (setup_of (text n ws ts [])) (table_of t.name t.cells))
     (body (with_table (setup_of (text n ws ts [])) (table_of t.name t.cells))) (open_table_rows t) end_row
     (open_again n ws ts t h) closes
-    ∙ ap (λ (x : List Table). Ok (body (record { memory = memory_of n ws; tables = x; boards = []; scripts = [] })))
+    ∙ ap
+    (λ (x : List Table).
+    Ok (body (record { memory = memory_of n.0 ws; fair = n.1; tables = x; boards = []; scripts = [] })))
     (sym (tables_append ts t))
 
 -- ---- a board
@@ -165,7 +233,7 @@ shape_is t Plain h = only_invalid t h
 shape_is t (Cached m n) h = h
 
 board_again :
-    (n : ℕ) (ws : List (ℕ × ℕ)) (ts : List TableText) (bs : List BoardText) (b : BoardText) → b.script ≡ []
+    (n : Opener) (ws : List (ℕ × ℕ)) (ts : List TableText) (bs : List BoardText) (b : BoardText) → b.script ≡ []
     → StandsSoFar (text n ws ts (bs ++ b ∷ []))
     → line_at (body (setup_of (text n ws ts bs))) (board_row b) ≡ Ok (body (setup_of (text n ws ts (bs ++ b ∷ []))))
 unfolding body_line board_line
@@ -224,14 +292,14 @@ some_boards ts [] b = refl
 some_boards ts (x ∷ bs) b = refl
 
 access_again :
-    (n : ℕ) (ws : List (ℕ × ℕ)) (ts : List TableText) (bs : List BoardText) (b : BoardText) (a : Access)
+    (n : Opener) (ws : List (ℕ × ℕ)) (ts : List TableText) (bs : List BoardText) (b : BoardText) (a : Access)
     → StandsSoFar (text n ws ts (bs ++ and_access b a ∷ []))
     → line_at (body (setup_of (text n ws ts (bs ++ b ∷ [])))) (access_row a)
     ≡ Ok (body (setup_of (text n ws ts (bs ++ and_access b a ∷ []))))
 access_again n ws ts bs b a s =
     let before = before_access n ws ts bs b a s in
     let setup = setup_of (text n ws ts (bs ++ b ∷ [])) in
-    let w = access_reads (length (memory_of n ws)) a before.1 before.3 in
+    let w = access_reads (length (memory_of n.0 ws)) a before.1 before.3 in
     ap (λ (l : Words). line_at (body setup) l) w.words ∙ (event_line w.event setup w.rest
     ∙ (rw (some_boards ts bs b, lt-ltb (access_count setup) 100000 before.2, w.reads) refl
     ∙ ap (λ (x : Setup). Ok (body x)) (sym (setup_access n ws ts bs b a))))
@@ -239,10 +307,10 @@ access_again n ws ts bs b a s =
 -- ---- all lines
 
 abbrev Runs : SetupText → Type 0
-Runs s = rows_at start (open_rows s) ≡ Ok (body (setup_of s))
+Runs s = rows_at start (open_rows s) ≡ Ok (mode_so_far s)
 
 words_run :
-    (n : ℕ) (done more : List (ℕ × ℕ)) → AllByRecursion WordFits more → AllByRecursion (λ w. w.0 < 4 * n) more
+    (n : Opener) (done more : List (ℕ × ℕ)) → AllByRecursion WordFits more → AllByRecursion (λ w. w.0 < 4 * n.0) more
     → rows_at (body (setup_of (text n done [] []))) (map word_row more)
     ≡ Ok (body (setup_of (text n (done ++ more) [] [])))
 words_run n done [] fits low = ap (λ (x : List (ℕ × ℕ)). Ok (body (setup_of (text n x [] [])))) (sym (append-nil done))
@@ -293,7 +361,7 @@ one_stands ts more t are fits cells =
         ∙ ap (λ (x : Table). x.name) (sym (at ts (table_of t.name t.cells) d more)))))
 
 tables_run :
-    (n : ℕ) (ws : List (ℕ × ℕ)) (done more : List TableText) → AllByRecursion TableFits more
+    (n : Opener) (ws : List (ℕ × ℕ)) (done more : List TableText) → AllByRecursion TableFits more
     → AllByRecursion CellsStand more → AreTables (tables_of (done ++ more))
     → rows_at (body (setup_of (text n ws done []))) (tables_rows more)
     ≡ Ok (body (setup_of (text n ws (done ++ more) [])))
@@ -310,14 +378,39 @@ tables_run n ws done (t ∷ more) fits cells are =
     ∙ ap (λ (x : List TableText). Ok (body (setup_of (text n ws x [])))) regroup)
 
 -- without boards
-no_boards_run :
-    (n : ℕ) (ws : List (ℕ × ℕ)) (ts : List TableText) → StandsSoFar (text n ws ts []) → Runs (text n ws ts [])
-no_boards_run n ws ts s =
-    let lines = lines_of_draft (text n ws ts []) s.sound in
+after_opener :
+    (n : Opener) (ws : List (ℕ × ℕ)) (ts : List TableText) → StandsSoFar (text n ws ts [])
+    → rows_at (body (setup_of (text n [] [] []))) (map word_row ws ++ (tables_rows ts ++ []))
+    ≡ Ok (body (setup_of (text n ws ts [])))
+after_opener n ws ts s =
     let words = rows_append (body (setup_of (text n [] [] []))) (map word_row ws) (tables_rows ts ++ []) in
     let tables = ap (λ (x : List Words). rows_at (body (setup_of (text n ws [] []))) x) (append-nil (tables_rows ts))
     ∙ tables_run n ws [] ts s.fits.tables s.cells s.sound.tables in
-    rw (memory_again n lines.0 lines.1) (words ∙ rw (words_run n [] ws s.fits.words s.addresses) tables)
+    words ∙ rw (words_run n [] ws s.fits.words s.addresses) tables
+
+no_boards_run :
+    (n : Opener) (ws : List (ℕ × ℕ)) (ts : List TableText) → StandsSoFar (text n ws ts []) → Runs (text n ws ts [])
+no_boards_run (k, true) ws ts s =
+    let lines = lines_of_draft (text (k, true) ws ts []) s.sound in
+    rw (memory_again k lines.0 lines.1, arbiter_again k) (after_opener (k, true) ws ts s)
+no_boards_run (k, false) [] [] s =
+    let lines = lines_of_draft (text (k, false) [] [] []) s.sound in rw (memory_again k lines.0 lines.1) refl
+no_boards_run (k, false) [] (t ∷ ts) s =
+    let lines = lines_of_draft (text (k, false) [] (t ∷ ts) []) s.sound in
+    rw (memory_again k lines.0 lines.1)
+    (headed_rows (setup_of (text (k, false) [] [] [])) (tables_rows (t ∷ ts) ++ []) refl
+    ∙ after_opener (k, false) [] (t ∷ ts) s)
+no_boards_run (k, false) (w ∷ ws) ts s =
+    let lines = lines_of_draft (text (k, false) (w ∷ ws) ts []) s.sound in
+    rw (memory_again k lines.0 lines.1)
+    (headed_rows (setup_of (text (k, false) [] [] [])) (map word_row (w ∷ ws) ++ (tables_rows ts ++ [])) refl
+    ∙ after_opener (k, false) (w ∷ ws) ts s)
+
+no_arbiter_access : (a : Access) → bytes_eq (first_word (access_row a)) (codes "arbiter") ≡ false
+no_arbiter_access (accesses.Read x) = refl
+no_arbiter_access (accesses.Write x y) = refl
+no_arbiter_access (accesses.Pass x) = refl
+no_arbiter_access (accesses.Flush x) = refl
 
 abbrev lines_count : List BoardText → ℕ
 lines_count [] = 0
@@ -328,7 +421,7 @@ count_push [] b = omega arith
 count_push (x ∷ bs) b = omega (arith, count_push bs b)
 
 boards_run :
-    (k n : ℕ) (ws : List (ℕ × ℕ)) (ts : List TableText) (bs : List BoardText) → lines_count bs ≤ k
+    (k : ℕ) (n : Opener) (ws : List (ℕ × ℕ)) (ts : List TableText) (bs : List BoardText) → lines_count bs ≤ k
     → StandsSoFar (text n ws ts bs) → Runs (text n ws ts bs)
 boards_run zero n ws ts [] small s = no_boards_run n ws ts s
 boards_run zero n ws ts (b ∷ bs) small s = absurd (omega arith)
@@ -346,8 +439,10 @@ boards_run (suc k) n ws ts bs small s = go (empty_or_last bs) (λ front small s.
         let row : board_rows b ≡ board_row b ∷ [] = ap (λ (x : List Access). board_row b ∷ map access_row x) none in
         ap (λ (x : List Words). rows_at start x)
         (rows_board n ws ts front b ∙ ap (λ (x : List Words). open_rows (text n ws ts front) ++ x) row)
-        ∙ rows_push start (body (setup_of (text n ws ts front))) (body (setup_of (text n ws ts (front ++ b ∷ []))))
-        (open_rows (text n ws ts front)) (board_row b) rest (board_again n ws ts front b none s)
+        ∙ (rows_push start (mode_so_far (text n ws ts front)) (body (setup_of (text n ws ts (front ++ b ∷ []))))
+        (open_rows (text n ws ts front)) (board_row b) rest
+        (so_far_line (text n ws ts front) (board_row b) refl ∙ board_again n ws ts front b none s)
+        ∙ past_mode (text n ws ts (front ++ b ∷ [])) (past_boards n ws ts front b))
     one front b (inr (script, a, e)) small s ih =
         let c : BoardText = record b { script = script } in
         let same : and_access c a ≡ b = ap (λ (x : List Access). record b { script = x }) (sym e) in
@@ -359,9 +454,12 @@ boards_run (suc k) n ws ts bs small s = go (empty_or_last bs) (λ front small s.
         let rest =
         ih (front ++ c ∷ []) (let x = count_push front b in let y = count_push front c in omega arith) before.0 in
         let run = ap (λ (x : List Words). rows_at start x) (rows_access n ws ts front c a)
-        ∙ rows_push start (body (setup_of (text n ws ts (front ++ c ∷ []))))
+        ∙ (rows_push start (mode_so_far (text n ws ts (front ++ c ∷ [])))
         (body (setup_of (text n ws ts (front ++ and_access c a ∷ [])))) (open_rows (text n ws ts (front ++ c ∷ [])))
-        (access_row a) rest (access_again n ws ts front c a stands) in
+        (access_row a) rest
+        (so_far_line (text n ws ts (front ++ c ∷ [])) (access_row a) (no_arbiter_access a)
+        ∙ access_again n ws ts front c a stands)
+        ∙ past_mode (text n ws ts (front ++ and_access c a ∷ [])) (past_boards n ws ts front (and_access c a))) in
         subst (λ (x : BoardText). Runs (text n ws ts (front ++ x ∷ []))) same run
 
     go :
@@ -377,20 +475,20 @@ boards_run (suc k) n ws ts bs small s = go (empty_or_last bs) (λ front small s.
         (subst (λ (x : List BoardText). StandsSoFar (text n ws ts x)) e s) ih)
 
 -- The lines of a setup that stands so far are read as its value.
-pub so_far_runs : (s : SetupText) → StandsSoFar s → rows_at start (open_rows s) ≡ Ok (body (setup_of s))
-so_far_runs s h = boards_run (lines_count s.boards) s.lines s.words s.tables s.boards (omega arith) h
+pub so_far_runs : (s : SetupText) → StandsSoFar s → rows_at start (open_rows s) ≡ Ok (mode_so_far s)
+so_far_runs s h = boards_run (lines_count s.boards) (s.lines, s.fair) s.words s.tables s.boards (omega arith) h
 
 -- So are those of a whole setup.
 pub setup_runs :
     (s : SetupText) → StandsSoFar s → 0 < length s.boards → rows_at start (setup_rows s) ≡ Ok (ended (setup_of s))
 unfolding body_line
 setup_runs s h some =
-    rows_push start (body (setup_of s)) (ended (setup_of s)) (open_rows s) end_row (so_far_runs s h)
-    (ends s.boards some)
+    rows_push start (mode_so_far s) (ended (setup_of s)) (open_rows s) end_row (so_far_runs s h)
+    (so_far_line s end_row refl ∙ ends s.boards some)
   where
     ends :
         (bs : List BoardText) → 0 < length bs
-        → line_at (body (setup_of (text s.lines s.words s.tables bs))) end_row
-        ≡ Ok (ended (setup_of (text s.lines s.words s.tables bs)))
+        → line_at (body (setup_of (text (s.lines, s.fair) s.words s.tables bs))) end_row
+        ≡ Ok (ended (setup_of (text (s.lines, s.fair) s.words s.tables bs)))
     ends [] some = absurd (omega arith)
     ends (b ∷ bs) some = refl

@@ -2,7 +2,7 @@
 use Rattle.std.proofs.Common.{◌≡◌, ℕ, ◌<◌, ◌≤◌, ◌^◌, ◌⊎◌, inl, inr, Bool, true, false, cond, ◌||◌, ltb, eqb, List, [], ◌∷◌, ◌++◌, map, Option, Some, None, Result, Ok, Err, refl, sym, ap, subst, ◌∙◌, append_assoc, arith}
 use Rattle.std.specs.Prelude.{codes, decimal, IfErr}
 use Rattle.std.specs.List.{AllByRecursion}
-use Rattle.std.proofs.lemmas.Bool.{ltb-true, ltb-false, eqb-true, eqb-false}
+use Rattle.std.proofs.lemmas.Bool.{both_ways, ltb-true, ltb-false, eqb-true, eqb-false}
 use Rattle.fb_text.specs.Places.{Words, Item, Place, word, line_end, text_end, lines_items, line_places, lines_places, text_places, IsFine}
 use Rattle.fb_text.specs.Unread.{Line, unread}
 use Rattle.fb_text.proofs.LineItems.{from, item_at}
@@ -24,17 +24,17 @@ use Rattle.setup_text.specs.Values.{setup_of}
 use Rattle.setup_text.specs.Grammars.{setup_grammar, BreaksSetup, JudgedLines, UnfitText, unfit_word, unfit_end, kind_of}
 use Rattle.setup_text.specs.Correct.{IsFirstFault}
 use Rattle.setup_text.specs.Drafts.{empty_setup}
-use Rattle.setup_text.specs.Reading.{Mode, body, Fault, Answers, on_line, number_at, in_lines, this_word, line_ends, memory_line, first_line, as_setup_kind, after_table_line, line_at, lines_at, text_ends, setup_at}
+use Rattle.setup_text.specs.Reading.{Mode, headed, Fault, Answers, on_line, number_at, in_lines, this_word, line_ends, memory_line, first_line, as_setup_kind, after_table_line, line_at, lines_at, text_ends, setup_at}
 use Rattle.setup_text.proofs.LineWords.{binds, number_read, word_read, memory_read}
 use Rattle.setup_text.proofs.Growing.{each_push}
-use Rattle.setup_text.proofs.Parts.{text, table_text, rows_table}
-use Rattle.setup_text.proofs.SetupLines.{Part, begin, so_far, opened, closed, mode_of, rows_of, OpenStands, Good, line_takes, table_whole}
+use Rattle.setup_text.proofs.Parts.{Opener, text, is_bare, table_text, rows_table}
+use Rattle.setup_text.proofs.SetupLines.{Part, begin, top, so_far, opened, closed, mode_of, rows_of, OpenStands, Good, line_takes, table_whole}
 use Rattle.setup_text.proofs.Books.{rows_close, rows_cell}
 use Rattle.setup_text.proofs.Follows.{InTable, Next, follows_open, nothing_follows}
 use Rattle.setup_text.proofs.OneText.{breaks_open}
 use Rattle.setup_text.proofs.OpenTables.{line_stops, cell_free, end_free}
 use Rattle.setup_text.proofs.LineFaults.{closed_text, spelled, same_breaks, same_unfit, decimal_same, kind_at, Refused, NumberTail, WordTail, EndTail, number_refused, word_refused, end_refused}
-use Rattle.setup_text.proofs.BodyFaults.{body_stops, body_passes}
+use Rattle.setup_text.proofs.BodyFaults.{body_stops, body_passes, second_stops, second_passes}
 
 -- ---- the first line
 
@@ -76,7 +76,7 @@ begins_first :
     (n : ℕ) (front more : Words) → n < 2 ^ 32 → memory_row n ≡ front ++ more
     → BeginsLine setup_grammar setup_rows [] front
 begins_first n front more low e = (
-  text n [] [] [],
+  text (n, false) [] [] [],
   more,
   end_row ∷ [],
   record { lines = low; words = tt; tables = tt; boards = tt },
@@ -93,7 +93,7 @@ abbrev ended_by : ℕ → Result (Unit {0}) SetupKind → Result ℕ SetupKind
 ended_by n x = x >>= λ _. Ok n
 
 abbrev setup_by : Result ℕ SetupKind → Result Mode SetupKind
-setup_by x = x >>= λ lines. Ok (body (empty_setup lines))
+setup_by x = x >>= λ lines. Ok (headed (empty_setup lines))
 
 module _ (rest : List Place) (line : ℕ) where
   abbrev Stops : Words → SetupKind → Type 0
@@ -205,9 +205,9 @@ module _ (rest : List Place) (line : ℕ) where
 first_free : (l : Words) (m : Mode) → first_line l ≡ Ok m → FreeFront BreaksSetup [] l
 unfolding first_line
 first_free l m e =
-    let a = binds (this_word (codes "memory") l) (λ after. memory_line after >>= λ lines. Ok (body (empty_setup lines)))
-    m e in
-    let b = binds (memory_line a.value) (λ lines. Ok (body (empty_setup lines))) m a.then in
+    let a = binds (this_word (codes "memory") l)
+    (λ after. memory_line after >>= λ lines. Ok (headed (empty_setup lines))) m e in
+    let b = binds (memory_line a.value) (λ lines. Ok (headed (empty_setup lines))) m a.then in
     let n = memory_read a.value b.value b.here in
     let is : l ≡ memory_row b.value =
     word_read (codes "memory") l a.value a.here ∙ ap (λ (u : Words). codes "memory" ∷ u) n.0 in
@@ -221,7 +221,8 @@ rows_more :
 rows_more done l =
     append_assoc (done ++ l ∷ []) (end_row ∷ []) (end_row ∷ []) ∙ append_assoc done (l ∷ []) (end_row ∷ end_row ∷ [])
 
-module _ (n : ℕ) (ws : List (ℕ × ℕ)) (ts : List TableText) (t : TableText) (h : OpenStands (text n ws ts []) t) where
+module _ (n : Opener) (ws : List (ℕ × ℕ)) (ts : List TableText) (t : TableText)
+    (h : OpenStands (text n ws ts []) t) where
   abbrev Done : List Words
   Done = open_rows (text n ws ts []) ++ open_table_rows t
 
@@ -304,11 +305,12 @@ module _ (n : ℕ) (ws : List (ℕ × ℕ)) (ts : List TableText) (t : TableText
       (end_rows ∙ ap (λ (x : List Words). x ++ end_row ∷ end_row ∷ []) (sym e))
 
 -- what holds of an open table holds with no boards
-with_none : (P : SetupText → Type 0) (s : SetupText) → s.boards ≡ [] → P (text s.lines s.words s.tables []) → P s
-with_none P s none p = subst (λ (x : List BoardText). P (text s.lines s.words s.tables x)) (sym none) p
+with_none :
+    (P : SetupText → Type 0) (s : SetupText) → s.boards ≡ [] → P (text (s.lines, s.fair) s.words s.tables []) → P s
+with_none P s none p = subst (λ (x : List BoardText). P (text (s.lines, s.fair) s.words s.tables x)) (sym none) p
 
-open_none : (s : SetupText) (t : TableText) → OpenStands s t → OpenStands (text s.lines s.words s.tables []) t
-open_none s t h = subst (λ (x : List BoardText). OpenStands (text s.lines s.words s.tables x) t) h.boards h
+open_none : (s : SetupText) (t : TableText) → OpenStands s t → OpenStands (text (s.lines, s.fair) s.words s.tables []) t
+open_none s t h = subst (λ (x : List BoardText). OpenStands (text (s.lines, s.fair) s.words s.tables x) t) h.boards h
 
 -- ---- after a whole setup
 
@@ -365,7 +367,10 @@ line_faults :
     (p : Part) (n : ℕ) (l : Words) (rest : List Place) (k : SetupKind) → Good p → line_at (mode_of p) l ≡ Err k
     → FaultBehind setup_grammar (rows_of p) (line_places n l rest) n k
 line_faults begin n l rest k good e = first_stops rest n l k e
-line_faults (so_far s) n l rest k good e = body_stops rest n s.lines s.words s.tables s.boards l k good e
+line_faults (top m) n l rest k good e = second_stops rest n m l k good e
+line_faults (so_far s) n l rest k good e =
+    body_stops rest n (s.lines, s.fair) s.words s.tables s.boards l k
+    (λ bare. absurd (both_ways (is_bare s) good.past bare)) good.stands e
 line_faults (opened s t) n l rest k good e = go (table_line (table_of t.name t.cells) l) refl e
   where
     go :
@@ -380,7 +385,7 @@ line_faults (opened s t) n l rest k good e = go (table_line (table_of t.name t.c
         same
         (with_none (λ (x : SetupText).
         FaultBehind setup_grammar (open_rows x ++ open_table_rows t) (line_places n l rest) n (kind_of tk)) s
-        good.boards (open_stops s.lines s.words s.tables t (open_none s t good) n l rest tk h))
+        good.boards (open_stops (s.lines, s.fair) s.words s.tables t (open_none s t good) n l rest tk h))
 line_faults (closed s) n l rest k good e =
     let same : UnknownWord ≡ k = cc in
     subst (λ (x : SetupKind). FaultBehind setup_grammar (setup_rows s) (line_places n l rest) n x) same
@@ -390,7 +395,9 @@ line_faults (closed s) n l rest k good e =
 line_free :
     (p : Part) (l : Words) (m : Mode) → Good p → line_at (mode_of p) l ≡ Ok m → FreeFront BreaksSetup (rows_of p) l
 line_free begin l m good e = first_free l m e
-line_free (so_far s) l m good e = body_passes [] 0 s.lines s.words s.tables s.boards l m good e
+line_free (top n) l m good e = second_passes [] 0 n l m good e
+line_free (so_far s) l m good e =
+    body_passes [] 0 (s.lines, s.fair) s.words s.tables s.boards l m good.stands e
 line_free (opened s t) l m good e = go (table_line (table_of t.name t.cells) l) refl e
   where
     go :
@@ -402,12 +409,12 @@ line_free (opened s t) l m good e = go (table_line (table_of t.name t.cells) l) 
         let is = table_line_takes (table_of t.name t.cells) l (true, u) (table_whole t) h in
         subst (λ (x : Words). FreeFront BreaksSetup (open_rows s ++ open_table_rows t) x) (sym is.0)
         (with_none (λ (x : SetupText). FreeFront BreaksSetup (open_rows x ++ open_table_rows t) end_row) s good.boards
-        (open_end_free s.lines s.words s.tables t (open_none s t good)))
+        (open_end_free (s.lines, s.fair) s.words s.tables t (open_none s t good)))
     go (Ok (false, u)) h e =
         let c = table_line_takes (table_of t.name t.cells) l (false, u) (table_whole t) h in
         subst (λ (x : Words). FreeFront BreaksSetup (open_rows s ++ open_table_rows t) x) (sym c.words)
         (with_none (λ (x : SetupText). FreeFront BreaksSetup (open_rows x ++ open_table_rows t) (cell_words c.line)) s
-        good.boards (open_cell_free s.lines s.words s.tables t (open_none s t good) c.line c.can))
+        good.boards (open_cell_free (s.lines, s.fair) s.words s.tables t (open_none s t good) c.line c.can))
 line_free (closed s) l m good e = absurd cc
 
 -- some text goes on with what was read
@@ -419,17 +426,23 @@ completes begin good done l e = absurd (nothing done e)
     nothing : (done : List Words) → [] ≡ done ++ l ∷ [] → ⊥
     nothing [] e = cc
     nothing (x ∷ done) e = cc
-completes (so_far s) good done l e = (
-  s,
+completes (top n) good done l e = (
+  text (n, false) [] [] [],
   end_row ∷ [],
   good.fits,
   ap (λ (x : List Words). x ++ end_row ∷ []) e ∙ append_assoc done (l ∷ []) (end_row ∷ []),
 )
+completes (so_far s) good done l e = (
+  s,
+  end_row ∷ [],
+  good.stands.fits,
+  ap (λ (x : List Words). x ++ end_row ∷ []) e ∙ append_assoc done (l ∷ []) (end_row ∷ []),
+)
 completes (opened s t) good done l e =
-    let none : rows_of (opened (text s.lines s.words s.tables []) t) ≡ rows_of (opened s t) =
-    ap (λ (x : List BoardText). open_rows (text s.lines s.words s.tables x) ++ open_table_rows t) (sym good.boards)
-    in
-    let n = next_end s.lines s.words s.tables t (open_none s t good) in (
+    let none : rows_of (opened (text (s.lines, s.fair) s.words s.tables []) t) ≡ rows_of (opened s t) =
+    ap (λ (x : List BoardText). open_rows (text (s.lines, s.fair) s.words s.tables x) ++ open_table_rows t)
+    (sym good.boards) in
+    let n = next_end (s.lines, s.fair) s.words s.tables t (open_none s t good) in (
       n.0,
       end_row ∷ n.1,
       n.2,
@@ -450,6 +463,19 @@ ends_early begin end f good e =
   where
     never : (r : SetupText) → SetupFits r → setup_rows r ≡ [] → text_end ∷ [] ≡ text_end ∷ [] → ⊥
     never r fits h k = cc
+ends_early (top n) end f good e =
+    let same : record { line = end; kind = NoEnd } ≡ f = cc in
+    subst (λ (x : Fault).
+    FaultBehind setup_grammar (open_rows (text (n, false) [] [] [])) (lines_places [] end) x.line x.kind) same
+    (text_stops setup_grammar setup_rows (text_end ∷ []) closed_text spelled BreaksSetup same_breaks same_breaks
+    (open_rows (text (n, false) [] [] [])) end NoEnd never refl)
+  where
+    never :
+        (r : SetupText) → SetupFits r → setup_rows r ≡ open_rows (text (n, false) [] [] [])
+        → text_end ∷ [] ≡ text_end ∷ [] → ⊥
+    never r fits h k =
+        nothing_follows r (text (n, false) [] [] []) end_row [] good.fits
+        (ap (λ (x : List Words). x ++ end_row ∷ []) (sym h))
 ends_early (so_far s) end f good e =
     let same : record { line = end; kind = NoEnd } ≡ f = cc in
     subst (λ (x : Fault). FaultBehind setup_grammar (open_rows s) (lines_places [] end) x.line x.kind) same
@@ -457,7 +483,8 @@ ends_early (so_far s) end f good e =
     (open_rows s) end NoEnd never refl)
   where
     never : (r : SetupText) → SetupFits r → setup_rows r ≡ open_rows s → text_end ∷ [] ≡ text_end ∷ [] → ⊥
-    never r fits h k = nothing_follows r s end_row [] good.fits (ap (λ (x : List Words). x ++ end_row ∷ []) (sym h))
+    never r fits h k =
+        nothing_follows r s end_row [] good.stands.fits (ap (λ (x : List Words). x ++ end_row ∷ []) (sym h))
 ends_early (opened s t) end f good e =
     let same : record { line = end; kind = NoEnd } ≡ f = cc in
     subst (λ (x : Fault).
@@ -469,9 +496,10 @@ ends_early (opened s t) end f good e =
         (r : SetupText) → SetupFits r → setup_rows r ≡ open_rows s ++ open_table_rows t → text_end ∷ [] ≡ text_end ∷ []
         → ⊥
     never r fits h k =
-        let none : rows_of (opened s t) ≡ rows_of (opened (text s.lines s.words s.tables []) t) =
-        ap (λ (x : List BoardText). open_rows (text s.lines s.words s.tables x) ++ open_table_rows t) good.boards in
-        never_open s.lines s.words s.tables t (open_none s t good) r fits (h ∙ none)
+        let none : rows_of (opened s t) ≡ rows_of (opened (text (s.lines, s.fair) s.words s.tables []) t) =
+        ap (λ (x : List BoardText). open_rows (text (s.lines, s.fair) s.words s.tables x) ++ open_table_rows t)
+        good.boards in
+        never_open (s.lines, s.fair) s.words s.tables t (open_none s t good) r fits (h ∙ none)
 ends_early (closed s) end f good e = absurd cc
 
 -- ---- all lines

@@ -21,33 +21,36 @@ use Rattle.table_text.proofs.TableLaws.{HasAllCells, table_line_takes, entered_w
 use Rattle.setup_text.specs.declared.fault.LimitOf.TheVariants.{Boards, Accesses}
 use Rattle.setup_text.specs.declared.fault.SetupKind.{SetupKind}
 use Rattle.setup_text.specs.declared.fault.SetupKind.TheVariants.{UnknownWord, Limit}
-use Rattle.setup_text.specs.Spelling.{TableText, BoardText, SetupText, end_row, memory_row, word_row, head_row, board_row, access_row, shape_words, open_table_rows, table_rows, open_rows, setup_rows}
+use Rattle.setup_text.specs.Spelling.{TableText, BoardText, SetupText, end_row, memory_row, arbiter_row, word_row, head_row, board_row, access_row, shape_words, open_table_rows, table_rows, open_rows, setup_rows}
 use Rattle.setup_text.specs.Values.{memory_of, tables_of, place_of, board_of, setup_of}
 use Rattle.setup_text.specs.Standing.{StandsSoFar}
-use Rattle.setup_text.specs.Drafts.{named, further, found_name, stays_invalid, with_word, with_table, with_board, with_access, empty_setup}
-use Rattle.setup_text.specs.Reading.{Mode, start, body, in_table, ended, value_line, word_line, head_line, table_head, board_front, board_table, shape_at, board_back, board_spec, board_line, board_added, access_line, access_read, end_line, line_ends, maybe_access, body_line, this_word, memory_line, first_line, as_setup_kind, after_table_line, line_at}
+use Rattle.setup_text.specs.Drafts.{named, further, found_name, stays_invalid, with_word, with_table, with_board, with_access, with_fair, empty_setup}
+use Rattle.setup_text.specs.Reading.{Mode, start, headed, body, in_table, ended, value_line, word_line, head_line, table_head, board_front, board_table, shape_at, board_back, board_spec, board_line, board_added, access_line, access_read, end_line, line_ends, maybe_access, body_line, this_word, memory_line, first_line, arbiter_line, second_line, as_setup_kind, after_table_line, line_at}
 use Rattle.setup_text.proofs.LineWords.{binds, ok_same, is_word, word_read, nothing_read, memory_read, value_line_read, access_read as access_words, shape_read, front_read, table_read, back_read, head_read}
 use Rattle.setup_text.proofs.Naming.{found_known}
 use Rattle.setup_text.proofs.Growing.{each_push}
 use Rattle.setup_text.proofs.Drafts.{board_fits}
-use Rattle.setup_text.proofs.Parts.{text, table_text, and_access, rows_word, rows_table, rows_board, rows_access, set_push, memory_long, stands_memory, stands_word, TableStands, tables_append, stands_table, spec_of, setup_board, stands_board, setup_access, stands_access}
+use Rattle.setup_text.proofs.Parts.{Opener, text, is_bare, past_words, past_tables, past_boards, table_text, and_access, rows_word, rows_table, rows_board, rows_access, set_push, memory_long, lines_of_draft, stands_memory, stands_word, TableStands, tables_append, stands_table, spec_of, setup_board, stands_board, setup_access, stands_access}
 
 -- ---- where reading stands, with the text so far
 
 pub data Part : Type 0 where
   begin : Part
+  top : ℕ → Part
   so_far : SetupText → Part
   opened : SetupText → TableText → Part
   closed : SetupText → Part
 
 abbrev pub mode_of : Part → Mode
 mode_of begin = start
+mode_of (top n) = headed (setup_of (text (n, false) [] [] []))
 mode_of (so_far s) = body (setup_of s)
 mode_of (opened s t) = in_table (setup_of s) (table_of t.name t.cells)
 mode_of (closed s) = ended (setup_of s)
 
 abbrev pub rows_of : Part → List Words
 rows_of begin = []
+rows_of (top n) = open_rows (text (n, false) [] [] [])
 rows_of (so_far s) = open_rows s
 rows_of (opened s t) = open_rows s ++ open_table_rows t
 rows_of (closed s) = setup_rows s
@@ -57,9 +60,15 @@ pub record OpenStands (s : SetupText) (t : TableText) : Type 0 where
   pub boards : s.boards ≡ []
   pub table : TableStands (tables_of s.tables) t
 
+-- More lines than the `memory` line stand.
+pub record Past (s : SetupText) : Type 0 where
+  pub stands : StandsSoFar s
+  pub past : is_bare s ≡ false
+
 abbrev pub Good : Part → Type 0
 Good begin = Unit {0}
-Good (so_far s) = StandsSoFar s
+Good (top n) = StandsSoFar (text (n, false) [] [] [])
+Good (so_far s) = Past s
 Good (opened s t) = OpenStands s t
 Good (closed s) = StandsSoFar s × (0 < length s.boards)
 
@@ -78,20 +87,20 @@ grows_by p l k m e g = subst (λ (x : Words). Grows p x m) (sym e) g
 first_takes : (l : Words) (m : Mode) → first_line l ≡ Ok m → Grows begin l m
 unfolding first_line
 first_takes l m e =
-    let a = binds (this_word (codes "memory") l) (λ after. memory_line after >>= λ lines. Ok (body (empty_setup lines)))
-    m e in
-    let b = binds (memory_line a.value) (λ lines. Ok (body (empty_setup lines))) m a.then in
+    let a = binds (this_word (codes "memory") l)
+    (λ after. memory_line after >>= λ lines. Ok (headed (empty_setup lines))) m e in
+    let b = binds (memory_line a.value) (λ lines. Ok (headed (empty_setup lines))) m a.then in
     let n = memory_read a.value b.value b.here in
     grows_by begin (memory_row b.value) l m
     (word_read (codes "memory") l a.value a.here ∙ ap (λ (u : Words). codes "memory" ∷ u) n.0) (record {
-      next = so_far (text b.value [] [] []);
-      good = stands_memory b.value n.1 n.2;
-      mode = ok_same (body (empty_setup b.value)) m b.then;
+      next = top b.value;
+      good = stands_memory (b.value, false) n.1 n.2;
+      mode = ok_same (headed (empty_setup b.value)) m b.then;
       rows = refl;
     })
 
 word_takes :
-    (n : ℕ) (ws : List (ℕ × ℕ)) (ts : List TableText) (bs : List BoardText) (l : Words) (m : Mode)
+    (n : Opener) (ws : List (ℕ × ℕ)) (ts : List TableText) (bs : List BoardText) (l : Words) (m : Mode)
     → StandsSoFar (text n ws ts bs) → word_line (setup_of (text n ws ts bs)) l ≡ Ok m
     → Grows (so_far (text n ws ts bs)) (codes "word" ∷ l) m
 word_takes n ws (t ∷ ts) bs l m s e = absurd cc
@@ -100,19 +109,23 @@ word_takes n ws [] [] l m s e =
     let setup = setup_of (text n ws [] []) in
     let a = binds (value_line (length setup.memory) l) (λ a. Ok (body (with_word setup a.0 a.1))) m e in
     let r = value_line_read (length setup.memory) l a.value a.here in
-    let low : a.value.0 < length (memory_of n ws) = r.1 in
+    let low : a.value.0 < length (memory_of n.0 ws) = r.1 in
     grows_by (so_far (text n ws [] [])) (word_row a.value) (codes "word" ∷ l) m
     (ap (λ (u : Words). codes "word" ∷ u) r.0) (record {
       next = so_far (text n (ws ++ a.value ∷ []) [] []);
-      good = stands_word n ws a.value s (r.2, r.3) (omega (arith, memory_long n ws));
+      good =
+          record {
+            stands = stands_word n ws a.value s (r.2, r.3) (omega (arith, memory_long n.0 ws));
+            past = past_words n ws a.value;
+          };
       mode =
-          ap (λ (x : List ℕ). body (record { memory = x; tables = []; boards = []; scripts = [] }))
+          ap (λ (x : List ℕ). body (record { memory = x; fair = n.1; tables = []; boards = []; scripts = [] }))
           (set_push _ ws a.value) ∙ ok_same (body (with_word setup a.value.0 a.value.1)) m a.then;
       rows = rows_word n ws a.value;
     })
 
 head_takes :
-    (n : ℕ) (ws : List (ℕ × ℕ)) (ts : List TableText) (bs : List BoardText) (l : Words) (m : Mode)
+    (n : Opener) (ws : List (ℕ × ℕ)) (ts : List TableText) (bs : List BoardText) (l : Words) (m : Mode)
     → StandsSoFar (text n ws ts bs) → table_head (setup_of (text n ws ts bs)) l ≡ Ok m
     → Grows (so_far (text n ws ts bs)) (codes "table" ∷ l) m
 head_takes n ws ts (b ∷ bs) l m s e = absurd cc
@@ -154,7 +167,7 @@ found_place w (t ∷ ts) p e =
         rw h (sym (ap (λ (x : ℕ × Bool). x.0) same) ∙ ap (λ (x : ℕ). x + 1) (rest q k))
 
 board_takes :
-    (n : ℕ) (ws : List (ℕ × ℕ)) (ts : List TableText) (bs : List BoardText) (l : Words) (m : Mode)
+    (n : Opener) (ws : List (ℕ × ℕ)) (ts : List TableText) (bs : List BoardText) (l : Words) (m : Mode)
     → StandsSoFar (text n ws ts bs) → board_added (setup_of (text n ws ts bs)) l ≡ Ok m
     → Grows (so_far (text n ws ts bs)) (codes "board" ∷ l) m
 unfolding board_line
@@ -221,15 +234,19 @@ board_takes n ws ts bs l m s e = room (ltb (length (setup_of (text n ws ts bs)).
         grows_by (so_far (text n ws ts bs)) (board_row board) (codes "board" ∷ l) m words (record {
           next = so_far (text n ws ts (bs ++ board ∷ []));
           good =
-              stands_board n ws ts bs board s refl
-              (record {
-                place = omega arith;
-                number = (f.low, f.high);
-                table = t.named_;
-                shape = shape.1;
-                choose = choose.1;
-                script = tt;
-              }) refl (omega arith) fits f.new;
+              record {
+                stands =
+                    stands_board n ws ts bs board s refl
+                    (record {
+                      place = omega arith;
+                      number = (f.low, f.high);
+                      table = t.named_;
+                      shape = shape.1;
+                      choose = choose.1;
+                      script = tt;
+                    }) refl (omega arith) fits f.new;
+                past = past_boards n ws ts bs board;
+              };
           mode =
               ap (λ (x : Setup). body x) (setup_board n ws ts bs board refl)
               ∙ (ap (λ (x : BoardSpec). body (with_board (setup_of (text n ws ts bs)) x))
@@ -239,8 +256,8 @@ board_takes n ws ts bs l m s e = room (ltb (length (setup_of (text n ws ts bs)).
         })
 
 access_takes :
-    (n : ℕ) (ws : List (ℕ × ℕ)) (ts : List TableText) (bs : List BoardText) (event : LocalEvent) (l : Words) (m : Mode)
-    → StandsSoFar (text n ws ts bs) → access_read (setup_of (text n ws ts bs)) event l ≡ Ok m
+    (n : Opener) (ws : List (ℕ × ℕ)) (ts : List TableText) (bs : List BoardText) (event : LocalEvent) (l : Words)
+    (m : Mode) → StandsSoFar (text n ws ts bs) → access_read (setup_of (text n ws ts bs)) event l ≡ Ok m
     → Grows (so_far (text n ws ts bs)) (local_event_word event ∷ l) m
 access_takes n ws ts bs event l m s e = go (empty_or_last bs)
   where
@@ -291,8 +308,12 @@ access_takes n ws ts bs event l m s e = go (empty_or_last bs)
                 m r.words (record {
                   next = so_far (text n ws ts (front ++ and_access b a.value ∷ []));
                   good =
-                      stands_access n ws ts front b a.value s r.fits
-                      (ltb-true (access_count (setup_of (text n ws ts (front ++ b ∷ [])))) 100000 h) r.within;
+                      record {
+                        stands =
+                            stands_access n ws ts front b a.value s r.fits
+                            (ltb-true (access_count (setup_of (text n ws ts (front ++ b ∷ [])))) 100000 h) r.within;
+                        past = past_boards n ws ts front (and_access b a.value);
+                      };
                   mode =
                       ap (λ (x : Setup). body x) (setup_access n ws ts front b a.value)
                       ∙ ok_same (body (with_access (setup_of (text n ws ts (front ++ b ∷ []))) a.value)) m a.then;
@@ -300,7 +321,7 @@ access_takes n ws ts bs event l m s e = go (empty_or_last bs)
                 })
 
 end_takes :
-    (n : ℕ) (ws : List (ℕ × ℕ)) (ts : List TableText) (bs : List BoardText) (l : Words) (m : Mode)
+    (n : Opener) (ws : List (ℕ × ℕ)) (ts : List TableText) (bs : List BoardText) (l : Words) (m : Mode)
     → StandsSoFar (text n ws ts bs) → end_line (setup_of (text n ws ts bs)) l ≡ Ok m
     → Grows (so_far (text n ws ts bs)) (codes "end" ∷ l) m
 end_takes n ws ts [] l m s e = absurd cc
@@ -316,7 +337,7 @@ end_takes n ws ts (b ∷ bs) l m s e =
     })
 
 body_takes :
-    (n : ℕ) (ws : List (ℕ × ℕ)) (ts : List TableText) (bs : List BoardText) (l : Words) (m : Mode)
+    (n : Opener) (ws : List (ℕ × ℕ)) (ts : List TableText) (bs : List BoardText) (l : Words) (m : Mode)
     → StandsSoFar (text n ws ts bs) → body_line (setup_of (text n ws ts bs)) l ≡ Ok m
     → Grows (so_far (text n ws ts bs)) l m
 unfolding body_line
@@ -420,14 +441,14 @@ rows_cell before name cells c =
     ∙ sym (append_assoc before (open_table_rows (table_text name cells)) (cell_words c ∷ []))
 
 setup_table :
-    (n : ℕ) (ws : List (ℕ × ℕ)) (ts : List TableText) (t : TableText)
+    (n : Opener) (ws : List (ℕ × ℕ)) (ts : List TableText) (t : TableText)
     → setup_of (text n ws (ts ++ t ∷ []) []) ≡ with_table (setup_of (text n ws ts [])) (table_of t.name t.cells)
 setup_table n ws ts t =
-    ap (λ (x : List Table). record { memory = memory_of n ws; tables = x; boards = []; scripts = [] })
+    ap (λ (x : List Table). record { memory = memory_of n.0 ws; fair = n.1; tables = x; boards = []; scripts = [] })
     (tables_append ts t)
 
 table_takes :
-    (n : ℕ) (ws : List (ℕ × ℕ)) (ts : List TableText) (t : TableText) (l : Words) (m : Mode)
+    (n : Opener) (ws : List (ℕ × ℕ)) (ts : List TableText) (t : TableText) (l : Words) (m : Mode)
     → OpenStands (text n ws ts []) t
     → line_at (in_table (setup_of (text n ws ts [])) (table_of t.name t.cells)) l ≡ Ok m
     → Grows (opened (text n ws ts []) t) l m
@@ -442,7 +463,7 @@ table_takes n ws ts t l m h e = go (table_line (table_of t.name t.cells) l) refl
         let is = table_line_takes (table_of t.name t.cells) l (true, u) (table_whole t) r in
         grows_by (opened (text n ws ts []) t) end_row l m is.0 (record {
           next = so_far (text n ws (ts ++ t ∷ []) []);
-          good = stands_table n ws ts t h.so_far h.table;
+          good = record { stands = stands_table n ws ts t h.so_far h.table; past = past_tables n ws ts t };
           mode =
               ap (λ (x : Setup). body x) (setup_table n ws ts t)
               ∙ (ap (λ (x : Table). body (with_table (setup_of (text n ws ts [])) x)) (sym is.1)
@@ -466,15 +487,59 @@ table_takes n ws ts t l m h e = go (table_line (table_of t.name t.cells) l) refl
           rows = rows_cell (open_rows (text n ws ts [])) t.name t.cells c.line;
         })
 
+-- ---- the line after the `memory` line
+
+-- A setup with an `arbiter` line stands where it stands without.
+pub stands_fair : (n : ℕ) → StandsSoFar (text (n, false) [] [] []) → StandsSoFar (text (n, true) [] [] [])
+stands_fair n s =
+    let lines = lines_of_draft (text (n, false) [] [] []) s.sound in stands_memory (n, true) lines.0 lines.1
+
+arbiter_takes :
+    (n : ℕ) (l : Words) (m : Mode) → StandsSoFar (text (n, false) [] [] [])
+    → arbiter_line (setup_of (text (n, false) [] [] [])) l ≡ Ok m → Grows (top n) (codes "arbiter" ∷ l) m
+unfolding arbiter_line
+arbiter_takes n l m s e =
+    let setup = setup_of (text (n, false) [] [] []) in
+    let a = binds (this_word (codes "fair") l) (λ after. line_ends after >>= λ _. Ok (body (with_fair setup))) m e in
+    let b = binds (line_ends a.value) (λ _. Ok (body (with_fair setup))) m a.then in
+    grows_by (top n) arbiter_row (codes "arbiter" ∷ l) m
+    (ap (λ (u : Words). codes "arbiter" ∷ u)
+    (word_read (codes "fair") l a.value a.here
+    ∙ ap (λ (u : Words). codes "fair" ∷ u) (nothing_read a.value b.value b.here))) (record {
+      next = so_far (text (n, true) [] [] []);
+      good = record { stands = stands_fair n s; past = refl };
+      mode = ok_same (body (with_fair setup)) m b.then;
+      rows = refl;
+    })
+
+top_takes :
+    (n : ℕ) (l : Words) (m : Mode) → StandsSoFar (text (n, false) [] [] [])
+    → second_line (setup_of (text (n, false) [] [] [])) l ≡ Ok m → Grows (top n) l m
+unfolding second_line
+top_takes n [] m s e = absurd cc
+top_takes n (w ∷ l) m s e = go (bytes_eq w (codes "arbiter")) refl e
+  where
+    go :
+        (b : Bool) → bytes_eq w (codes "arbiter") ≡ b
+        → cond b (arbiter_line (setup_of (text (n, false) [] [] [])) l)
+        (body_line (setup_of (text (n, false) [] [] [])) (w ∷ l)) ≡ Ok m → Grows (top n) (w ∷ l) m
+    go true h e =
+        grows_by (top n) (codes "arbiter" ∷ l) (w ∷ l) m (ap (λ (u : List ℕ). u ∷ l) (is_word w (codes "arbiter") h))
+        (arbiter_takes n l m s e)
+    go false h e =
+        let g = body_takes (n, false) [] [] [] (w ∷ l) m s e in
+        record { next = g.next; good = g.good; mode = g.mode; rows = g.rows }
+
 -- What is read is spelled so.
 pub line_takes : (p : Part) (l : Words) (m : Mode) → Good p → line_at (mode_of p) l ≡ Ok m → Grows p l m
 line_takes begin l m good e = first_takes l m e
-line_takes (so_far s) l m good e = body_takes s.lines s.words s.tables s.boards l m good e
+line_takes (top n) l m good e = top_takes n l m good e
+line_takes (so_far s) l m good e = body_takes (s.lines, s.fair) s.words s.tables s.boards l m good.stands e
 line_takes (opened s t) l m good e =
-    let none : text s.lines s.words s.tables [] ≡ s =
-    ap (λ (x : List BoardText). text s.lines s.words s.tables x) (sym good.boards) in
+    let none : text (s.lines, s.fair) s.words s.tables [] ≡ s =
+    ap (λ (x : List BoardText). text (s.lines, s.fair) s.words s.tables x) (sym good.boards) in
     let P : SetupText → Type 0 =
     λ x.
     OpenStands x t → line_at (in_table (setup_of x) (table_of t.name t.cells)) l ≡ Ok m → Grows (opened x t) l m in
-    (subst P none (λ h k. table_takes s.lines s.words s.tables t l m h k)) good e
+    (subst P none (λ h k. table_takes (s.lines, s.fair) s.words s.tables t l m h k)) good e
 line_takes (closed s) l m good e = absurd cc

@@ -15,7 +15,7 @@ use Rattle.setup_text.specs.Correct.{IsSetup}
 use Rattle.setup_text.specs.Reading.{Mode, Answers, on_line, line_at, lines_at, text_ends, setup_at}
 use Rattle.setup_text.proofs.Texts.{text_items}
 use Rattle.setup_text.proofs.Parts.{stands}
-use Rattle.setup_text.proofs.SetupLines.{Part, begin, so_far as part, opened, closed, mode_of, rows_of, Good, line_takes}
+use Rattle.setup_text.proofs.SetupLines.{Part, begin, top, so_far as part, opened, closed, mode_of, rows_of, Good, line_takes}
 
 abbrev pub words_of : List Line → List Words
 words_of ls = map (λ (l : Line). l.words) ls
@@ -30,6 +30,7 @@ pub record TakesAll (p : Part) (ls : List Line) (setup : Setup) : Type 0 where
 
 ended_at : (p : Part) (end : ℕ) (setup : Setup) → Good p → text_ends (mode_of p) end ≡ Ok setup → TakesAll p [] setup
 ended_at begin end setup good e = absurd cc
+ended_at (top n) end setup good e = absurd cc
 ended_at (part s) end setup good e = absurd cc
 ended_at (opened s t) end setup good e = absurd cc
 ended_at (closed s) end setup good e =

@@ -12,7 +12,7 @@ use Rattle.class_relation.specs.Tables.{Table}
 use Rattle.table_check.specs.declared.boards.BoardSpec.{BoardSpec}
 use Rattle.table_text.specs.Writing.{written_table}
 use Rattle.setup.specs.Setup.{Setup, line_count}
-use Rattle.setup_text.specs.Spelling.{BoardText, end_row, memory_row, word_row, board_row, shape_words, choose_words, table_rows, tables_rows, board_rows}
+use Rattle.setup_text.specs.Spelling.{BoardText, end_row, memory_row, arbiter_rows, word_row, board_row, shape_words, choose_words, table_rows, tables_rows, board_rows}
 use Rattle.setup_text.specs.Writing.{words_from, text_of_table, text_of_board, boards_from, written_setup}
 
 -- ---- one line
@@ -218,19 +218,25 @@ board_more old bytes new tables bs ss i place b s lt same is_b is_s at e h =
 -- ---- a whole setup
 
 pub setup_written :
-    (old memory words tables boards all : List ℕ) (s : Setup) → memory ≡ old ++ line_bytes (memory_row (line_count s))
-    → words ≡ memory ++ lines_bytes (map word_row (words_from 0 s.memory))
+    (old memory arbiter words tables boards all : List ℕ) (s : Setup)
+    → memory ≡ old ++ line_bytes (memory_row (line_count s))
+    → arbiter ≡ memory ++ lines_bytes (arbiter_rows s.fair)
+    → words ≡ arbiter ++ lines_bytes (map word_row (words_from 0 s.memory))
     → tables ≡ words ++ lines_bytes (tables_rows (map text_of_table s.tables))
     → boards ≡ tables ++ lines_bytes (flat_map board_rows (boards_from s.tables 1 s.boards s.scripts))
     → all ≡ boards ++ line_bytes end_row → all ≡ old ++ written_setup s
 unfolding written_setup
-setup_written old memory words tables boards all s e0 e1 e2 e3 e4 =
+setup_written old memory arbiter words tables boards all s e0 ea e1 e2 e3 e4 =
     let m : Words = memory_row (line_count s) in
+    let a : List Words = arbiter_rows s.fair in
     let w : List Words = map word_row (words_from 0 s.memory) in
     let t : List Words = tables_rows (map text_of_table s.tables) in
     let b : List Words = flat_map board_rows (boards_from s.tables 1 s.boards s.scripts) in
-    let h1 = rows_more old memory words (m ∷ []) w (e0 ∙ row_bytes old m) e1 in
-    let h2 = rows_more old words tables (m ∷ w) t h1 e2 in
-    let h3 = rows_more old tables boards (m ∷ (w ++ t)) b h2 e3 in
-    let h4 = rows_more old boards all (m ∷ ((w ++ t) ++ b)) (end_row ∷ []) h3 (e4 ∙ row_bytes boards end_row) in
-    h4 ∙ ap (λ (v : List Words). old ++ lines_bytes (m ∷ (v ++ end_row ∷ []))) (append_assoc w t b)
+    let h0 = rows_more old memory arbiter (m ∷ []) a (e0 ∙ row_bytes old m) ea in
+    let h1 = rows_more old arbiter words (m ∷ a) w h0 e1 in
+    let h2 = rows_more old words tables (m ∷ (a ++ w)) t h1 e2 in
+    let h3 = rows_more old tables boards (m ∷ ((a ++ w) ++ t)) b h2 e3 in
+    let h4 = rows_more old boards all (m ∷ (((a ++ w) ++ t) ++ b)) (end_row ∷ []) h3 (e4 ∙ row_bytes boards end_row) in
+    h4
+    ∙ ap (λ (v : List Words). old ++ lines_bytes (m ∷ (v ++ end_row ∷ [])))
+    (append_assoc (a ++ w) t b ∙ append_assoc a w (t ++ b))

@@ -1,5 +1,5 @@
 -- All that is written in a setup is lines of words.
-use Rattle.std.proofs.Common.{◌≡◌, ℕ, ◌<◌, ◌≤◌, ◌^◌, true, List, [], ◌∷◌, ◌++◌, length, map, refl, arith}
+use Rattle.std.proofs.Common.{◌≡◌, ℕ, ◌<◌, ◌≤◌, ◌^◌, Bool, true, false, List, [], ◌∷◌, ◌++◌, length, map, refl, arith}
 use Rattle.std.specs.Prelude.{codes, decimal}
 use Rattle.std.specs.List.{list_all, flat_map, AllByRecursion}
 use Rattle.std.specs.Char.{digit_value}
@@ -17,7 +17,7 @@ use Rattle.table_check.specs.declared.boards.Shape.TheVariants.{Plain, Cached}
 use Rattle.table_check.specs.declared.boards.Choose.{Choose}
 use Rattle.table_check.specs.declared.boards.Choose.TheVariants.{First, Round, Seed}
 use Rattle.table_text.proofs.Plain.{rows_plain, name_plain}
-use Rattle.setup_text.specs.Spelling.{TableText, BoardText, SetupText, end_row, word_row, shape_words, choose_words, board_row, access_row, board_rows, tables_rows, setup_rows, ShapeFits, ChooseFits, AccessFits, WordFits, TableFits, BoardFits, SetupFits}
+use Rattle.setup_text.specs.Spelling.{TableText, BoardText, SetupText, end_row, arbiter_rows, word_row, shape_words, choose_words, board_row, access_row, board_rows, tables_rows, setup_rows, ShapeFits, ChooseFits, AccessFits, WordFits, TableFits, BoardFits, SetupFits}
 use Rattle.setup_text.proofs.Writes.{all_append}
 
 abbrev AreWords : Words → Type 0
@@ -134,14 +134,21 @@ words_plain (w ∷ ws) h = (
   words_plain ws h.1,
 )
 
+arbiter_plain : (fair : Bool) → AreLines (arbiter_rows fair)
+arbiter_plain true = ((omega arith, (refl, (refl, tt))), tt)
+arbiter_plain false = tt
+
 pub setup_plain : (s : SetupText) → SetupFits s → AreLines (setup_rows s)
 setup_plain s h =
     let low = h.lines in
     let parts = all_append IsLine (map word_row s.words) (tables_rows s.tables ++ flat_map board_rows s.boards)
     (words_plain s.words h.words)
     (all_append IsLine (tables_rows s.tables) (flat_map board_rows s.boards) (tables_plain s.tables h.tables)
-    (boards_plain s.boards h.boards)) in (
+    (boards_plain s.boards h.boards)) in
+    let all = all_append IsLine (arbiter_rows s.fair)
+    (map word_row s.words ++ (tables_rows s.tables ++ flat_map board_rows s.boards)) (arbiter_plain s.fair) parts in (
       (omega arith, (refl, (decimal_plain s.lines (omega arith), tt))),
-      all_append IsLine (map word_row s.words ++ (tables_rows s.tables ++ flat_map board_rows s.boards))
-          (end_row ∷ []) parts ((omega arith, (refl, tt)), tt),
+      all_append IsLine
+          (arbiter_rows s.fair ++ (map word_row s.words ++ (tables_rows s.tables ++ flat_map board_rows s.boards)))
+          (end_row ∷ []) all ((omega arith, (refl, tt)), tt),
     )

@@ -28,6 +28,7 @@ value_again s h =
     λ i.
     record {
       memory = m i;
+      fair = s.fair;
       tables = t i;
       boards = (ap (λ (v : List Table). map (board_of v) (boards_from s.tables 1 s.boards s.scripts)) t ∙ b) i;
       scripts = c i;

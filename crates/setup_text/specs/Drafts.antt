@@ -1,5 +1,5 @@
 -- A setup that was read so far.
-use Rattle.std.specs.Prelude.{◌≡◌, ◌≢◌, ℕ, ◌+◌, ◌-◌, ◌*◌, ◌^◌, ◌<◌, ◌≤◌, Bool, true, not, ◌||◌, List, [], ◌∷◌, ◌++◌, length, replicate, slice_set, slice_index_or, Option, Some, None, All, AllPairs, if◌then◌else◌}
+use Rattle.std.specs.Prelude.{◌≡◌, ◌≢◌, ℕ, ◌+◌, ◌-◌, ◌*◌, ◌^◌, ◌<◌, ◌≤◌, Bool, true, false, not, ◌||◌, List, [], ◌∷◌, ◌++◌, length, replicate, slice_set, slice_index_or, Option, Some, None, All, AllPairs, if◌then◌else◌}
 use Rattle.std.specs.Option.{option_map}
 use Rattle.std.specs.Str.{bytes_eq}
 use Rattle.bus_signals.specs.declared.Access.{Access}
@@ -17,7 +17,17 @@ use Rattle.setup.specs.Setup.{Setup, BoardFits, line_count, access_count}
 -- A setup of so many lines of memory, and nothing else.
 abbrev pub empty_setup : ℕ → Setup
 empty_setup lines =
-    record { memory = replicate (4 * lines) 0; tables = []; boards = []; scripts = [] }
+    record {
+      memory = replicate (4 * lines) 0;
+      fair = false;
+      tables = [];
+      boards = [];
+      scripts = [];
+    }
+
+-- A setup whose arbitration is fair.
+abbrev pub with_fair : Setup → Setup
+with_fair setup = record setup { fair = true }
 
 abbrev pub with_word : Setup → ℕ → ℕ → Setup
 with_word setup addr value = record setup { memory = slice_set setup.memory addr value }

@@ -152,7 +152,7 @@ JudgedPlace setup w kind = (w ≢ decimal (length setup.boards + 1)) × (kind �
 -- A number that an earlier board has.
 abbrev pub JudgedNumber : Setup → List ℕ → SetupKind → Type 0
 JudgedNumber setup w kind =
-    (n : ℕ) × (n ≤ 255) × (w ≡ decimal n)
+    (n : ℕ) × (n ≤ 1023) × (w ≡ decimal n)
     × Contains (map (λ (b : BoardSpec). b.number) setup.boards) n × (kind ≡ TwiceNumber)
 
 -- A name that no table has.

@@ -29,7 +29,7 @@ use Rattle.setup_text.specs.declared.fault.SetupKind.TheVariants.{UnknownWord, N
 use Rattle.setup_text.specs.declared.fault.SetupFault.{SetupFault}
 use Rattle.setup_text.specs.declared.fault.SetupFault.TheVariants as faults
 use Rattle.setup_text.specs.Grammars.{kind_of}
-use Rattle.setup_text.specs.Drafts.{empty_setup, with_word, with_table, with_board, with_access, named, found_name}
+use Rattle.setup_text.specs.Drafts.{empty_setup, with_fair, with_word, with_table, with_board, with_access, named, found_name}
 
 -- What a function returned, seen by view, is what reading a line gives, unless memory ran out.
 abbrev pub Fails : {Y : Type 0} → SetupFault → ℕ → Result Y SetupKind → Type 0
@@ -145,7 +145,7 @@ abbrev pub new_number : List BoardSpec → ℕ × Words → Result (ℕ × Words
 new_number boards n = if has_number boards n.0 then Err TwiceNumber else Ok n
 
 unfoldable pub board_number_at : List BoardSpec → Words → Result (ℕ × Words) SetupKind
-board_number_at boards ws = number_from_one 255 ws >>= new_number boards
+board_number_at boards ws = number_from_one 1023 ws >>= new_number boards
 
 -- The place of the table of a name, and whether it reaches no state but I.
 abbrev pub known_name : Option (ℕ × Bool) → Words → Result (ℕ × Bool × Words) SetupKind
@@ -205,6 +205,8 @@ access_line bound event ws = access_parts bound event ws >>= λ a. Ok (access_of
 pub data Mode : Type 0 where
   -- before the first line
   start : Mode
+  -- after the `memory` line
+  headed : Setup → Mode
   -- after the lines of a setup
   body : Setup → Mode
   -- in a table after them
@@ -280,7 +282,18 @@ body_line setup (w ∷ ws) =
 unfoldable pub first_line : Words → Result Mode SetupKind
 first_line ws =
     this_word (codes "memory") ws >>=
-    λ after. memory_line after >>= λ lines. Ok (body (empty_setup lines))
+    λ after. memory_line after >>= λ lines. Ok (headed (empty_setup lines))
+
+-- The `arbiter` line, after its first word.
+unfoldable pub arbiter_line : Setup → Words → Result Mode SetupKind
+arbiter_line setup ws =
+    this_word (codes "fair") ws >>= λ after. line_ends after >>= λ _. Ok (body (with_fair setup))
+
+-- The line after the `memory` line.
+unfoldable pub second_line : Setup → Words → Result Mode SetupKind
+second_line setup [] = Err UnknownWord
+second_line setup (w ∷ ws) =
+    if bytes_eq w (codes "arbiter") then arbiter_line setup ws else body_line setup (w ∷ ws)
 
 -- A line of a table, which may be its last.
 abbrev pub as_setup_kind : {X : Type 0} → Result X TableKind → Result X SetupKind
@@ -292,6 +305,7 @@ after_table_line setup t = if t.0 then body (with_table setup t.1) else in_table
 
 abbrev pub line_at : Mode → Words → Result Mode SetupKind
 line_at start ws = first_line ws
+line_at (headed setup) ws = second_line setup ws
 line_at (body setup) ws = body_line setup ws
 line_at (in_table setup table) ws =
     as_setup_kind (table_line table ws) >>= λ t. Ok (after_table_line setup t)

@@ -1,5 +1,5 @@
 -- How texts of tables, setups and schedules are written.
-use Rattle.std.specs.Prelude.{◌≡◌, ℕ, ◌<◌, ◌≤◌, ◌^◌, true, List, [], ◌∷◌, ◌++◌, length, map, codes, decimal}
+use Rattle.std.specs.Prelude.{◌≡◌, ℕ, ◌<◌, ◌≤◌, ◌^◌, Bool, true, List, [], ◌∷◌, ◌++◌, length, map, codes, decimal, if◌then◌else◌}
 use Rattle.std.specs.List.{flat_map, AllByRecursion}
 use Rattle.fb_text.specs.Places.{Words, Item, text_end, lines_items}
 use Rattle.bus_signals.specs.declared.Access.{Access}
@@ -27,9 +27,11 @@ pub record BoardText : Type 0 where
   pub choose : Choose
   pub script : List Access
 
--- A setup: the number of lines of memory, the `word` lines, the tables and the boards.
+-- A setup: the number of lines of memory, whether there is an `arbiter` line, the `word` lines, the
+-- tables and the boards.
 pub record SetupText : Type 0 where
   pub lines : ℕ
+  pub fair : Bool
   pub words : List (ℕ × ℕ)
   pub tables : List TableText
   pub boards : List BoardText
@@ -41,6 +43,9 @@ end_row = codes "end" ∷ []
 
 abbrev pub memory_row : ℕ → Words
 memory_row lines = codes "memory" ∷ decimal lines ∷ []
+
+abbrev pub arbiter_row : Words
+arbiter_row = codes "arbiter" ∷ codes "fair" ∷ []
 
 abbrev pub word_row : ℕ × ℕ → Words
 word_row w = codes "word" ∷ decimal w.0 ∷ decimal w.1 ∷ []
@@ -84,11 +89,16 @@ board_rows b = board_row b ∷ map access_row b.script
 abbrev pub tables_rows : List TableText → List Words
 tables_rows tables = flat_map table_rows tables
 
+-- The `arbiter` line of a fair setup. Any other has none.
+abbrev pub arbiter_rows : Bool → List Words
+arbiter_rows fair = if fair then arbiter_row ∷ [] else []
+
 -- The lines of a setup before its `end` line.
 abbrev pub open_rows : SetupText → List Words
 open_rows s =
     memory_row s.lines
-    ∷ (map word_row s.words ++ (tables_rows s.tables ++ flat_map board_rows s.boards))
+    ∷ (arbiter_rows s.fair
+    ++ (map word_row s.words ++ (tables_rows s.tables ++ flat_map board_rows s.boards)))
 
 abbrev pub setup_rows : SetupText → List Words
 setup_rows s = open_rows s ++ end_row ∷ []
@@ -131,7 +141,7 @@ pub record TableFits (t : TableText) : Type 0 where
 
 pub record BoardFits (b : BoardText) : Type 0 where
   pub place : b.place < 2 ^ 32
-  pub number : (1 ≤ b.number) × (b.number ≤ 255)
+  pub number : (1 ≤ b.number) × (b.number ≤ 1023)
   pub table : is_name b.table ≡ true
   pub shape : ShapeFits b.shape
   pub choose : ChooseFits b.choose

@@ -43,6 +43,7 @@ board_of tables b =
 abbrev pub setup_of : SetupText → Setup
 setup_of s = record {
   memory = memory_of s.lines s.words;
+  fair = s.fair;
   tables = tables_of s.tables;
   boards = map (board_of (tables_of s.tables)) s.boards;
   scripts = map (λ b. b.script) s.boards;

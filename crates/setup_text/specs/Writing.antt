@@ -50,6 +50,7 @@ boards_from tables place (b ∷ bs) (s ∷ ss) =
 abbrev pub text_of : Setup → SetupText
 text_of s = record {
   lines = line_count s;
+  fair = s.fair;
   words = words_from 0 s.memory;
   tables = map text_of_table s.tables;
   boards = boards_from s.tables 1 s.boards s.scripts;
@@ -63,7 +64,7 @@ written_setup s = lines_bytes (setup_rows (text_of s))
 -- 176.
 abbrev pub setup_room : Setup → ℕ
 setup_room s =
-    32 + 48 * length s.memory + table_room * length s.tables + 176 * length s.boards
+    48 + 48 * length s.memory + table_room * length s.tables + 176 * length s.boards
     + 48 * access_count s
 
 -- What holds of every setup of the program: it is within its limits, its tables are whole, and its

@@ -108,11 +108,11 @@ fn board_number(scan: &mut Scan, boards: &[BoardSpec]) -> Result<u16, SetupFault
     ensures value { Gives (λ n. (n, scan.new.words)) result scan.old.line
         (board_number_at boards.now scan.old.words) }
     ensures least { IfOk result (λ n. 1 ≤ n) }
-    ensures most { IfOk result (λ n. n ≤ 255) }
+    ensures most { IfOk result (λ n. n ≤ 1023) }
     ensures new { IfOk result (λ n. has_number boards.now n ≡ false) }
     ensures stays { StaysOnLine scan.old scan.new }
 {
-    let number = number_from_one(scan, 255)? as u16;
+    let number = number_from_one(scan, 1023)? as u16;
     if has_number(boards, number) {
         return Err(bad(scan, SetupKind::TwiceNumber));
     }
@@ -126,7 +126,7 @@ fn front(scan: &mut Scan, boards: &[BoardSpec]) -> Result<u16, SetupFault>
     ensures value { Gives (λ n. (n, scan.new.words)) result scan.old.line
         (board_front boards.now scan.old.words) }
     ensures least { IfOk result (λ n. 1 ≤ n) }
-    ensures most { IfOk result (λ n. n ≤ 255) }
+    ensures most { IfOk result (λ n. n ≤ 1023) }
     ensures new { IfOk result (λ n. has_number boards.now n ≡ false) }
     ensures stays { StaysOnLine scan.old scan.new }
 {

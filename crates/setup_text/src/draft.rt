@@ -4,7 +4,7 @@ ghost use Rattle.std.specs.Prelude.{◌≡◌, ◌<◌, ◌≤◌, ◌*◌, fals
 ghost use Rattle.bus_signals.specs.Accesses.{address_of};
 ghost use Rattle.class_relation.specs.Rows.{rows};
 ghost use Rattle.setup.specs.Setup.{BoardFits, access_count};
-ghost use Rattle.setup_text.specs.Drafts.{empty_setup, with_word, with_table, with_board, with_access, access_added, named, found_name, IsDraft};
+ghost use Rattle.setup_text.specs.Drafts.{empty_setup, with_fair, with_word, with_table, with_board, with_access, access_added, named, found_name, IsDraft};
 ghost use Rattle.setup_text.specs.Reading.{has_number};
 
 use crate::tables::Tables;
@@ -21,6 +21,7 @@ use table_check::BoardSpec;
 pub struct Draft {
     alloc: Global,
     memory: Vec<u32>,
+    fair: bool,
     tables: Tables,
     boards: Vec<BoardSpec>,
     scripts: Vec<Vec<Access>>,
@@ -37,6 +38,7 @@ impl Model for Draft {
 
     ghost view = { λ d. record {
       memory = d.memory.items;
+      fair = d.fair;
       tables = d.tables;
       boards = d.boards.items;
       scripts = rows d.scripts.items;
@@ -44,12 +46,14 @@ impl Model for Draft {
 
     ghost invariant = { λ d. IsDraft (record {
       memory = d.memory.items;
+      fair = d.fair;
       tables = d.tables;
       boards = d.boards.items;
       scripts = rows d.scripts.items;
     })
         × (d.accesses ≡ access_count (record {
           memory = d.memory.items;
+          fair = d.fair;
           tables = d.tables;
           boards = d.boards.items;
           scripts = rows d.scripts.items;
@@ -83,6 +87,7 @@ impl Draft {
         Ok(Draft {
             alloc,
             memory,
+            fair: false,
             tables: Tables::new(alloc),
             boards: Vec::new(alloc),
             scripts: Vec::new(alloc),
@@ -116,6 +121,13 @@ impl Draft {
         ensures accesses { result ≡ access_count self.now }
     {
         self.accesses
+    }
+
+    /// Makes the arbitration fair.
+    pub fn set_fair(&mut self)
+        ensures { self.new ≡ with_fair self.old }
+    {
+        self.fair = true;
     }
 
     pub fn set_word(&mut self, addr: u32, value: u32)
@@ -164,6 +176,7 @@ impl Draft {
     {
         Setup::of(
             self.memory,
+            self.fair,
             self.tables.into_vec(),
             self.boards,
             self.scripts,

@@ -10,7 +10,7 @@ ghost use Rattle.setup_text.specs.Spelling.{SetupText, setup_items};
 ghost use Rattle.setup_text.specs.Values.{setup_of};
 ghost use Rattle.setup_text.specs.Grammars.{setup_grammar};
 ghost use Rattle.setup_text.specs.Correct.{SetupStands, IsSetup, IsReadAs, IsFirstFault};
-ghost use Rattle.setup_text.specs.Reading.{Mode, Gives, Answers, GoesOn, mode_after, then_lines, word_line, table_head, board_added, access_read, end_line, body_line, first_line, lines_at, setup_at};
+ghost use Rattle.setup_text.specs.Reading.{Mode, Gives, Answers, GoesOn, mode_after, then_lines, word_line, table_head, board_added, access_read, end_line, body_line, first_line, arbiter_line, second_line, lines_at, setup_at};
 ghost use Rattle.setup_text.specs.Writing.{written_setup, IsWholeSetup, lines_behind, IsReadBefore};
 
 use crate::board_line::board;
@@ -119,6 +119,27 @@ fn part(alloc: Global, scan: &mut Scan, draft: &mut Draft, word: &[u8]) -> Resul
     }
 }
 
+/// Reads one line or one table after its first word. Returns whether it was the `end` line.
+#[tactic(auto, unfolding(crate::specs::Reading::body_line))]
+fn line_after(
+    alloc: Global,
+    scan: &mut Scan,
+    draft: &mut Draft,
+    word: &[u8],
+) -> Result<bool, SetupFault>
+    ensures exact { GoesOn lines_at (mode_after draft.new) result scan.new
+        (then_lines lines_at scan.old (body_line draft.old (word.now ∷ scan.old.words))) }
+    ensures shorter { OnOk result (length scan.new.lines ≤ length scan.old.lines) }
+    ensures some { IfOk result (λ ended. ended ≡ true → 1 ≤ length draft.new.boards) }
+{
+    if is(word, "end") {
+        end_line(scan, draft)?;
+        return Ok(true);
+    }
+    part(alloc, scan, draft, word)?;
+    Ok(false)
+}
+
 /// Reads one line or one table. Returns whether it was the `end` line.
 #[tactic(auto, unfolding(crate::specs::Reading::body_line))]
 fn line(alloc: Global, scan: &mut Scan, draft: &mut Draft) -> Result<bool, SetupFault>
@@ -130,18 +151,44 @@ fn line(alloc: Global, scan: &mut Scan, draft: &mut Draft) -> Result<bool, Setup
     let Some(word) = scan.next_word() else {
         return Err(bad(scan, SetupKind::UnknownWord));
     };
-    if is(word, "end") {
-        end_line(scan, draft)?;
-        return Ok(true);
+    line_after(alloc, scan, draft, word)
+}
+
+/// Reads the `arbiter` line after its first word.
+#[tactic(auto, unfolding(crate::specs::Reading::arbiter_line))]
+fn arbiter_line(scan: &mut Scan, draft: &mut Draft) -> Result<(), SetupFault>
+    ensures value { Gives (λ _. Mode.body draft.new) result scan.old.line
+        (arbiter_line draft.old scan.old.words) }
+    ensures stays { StaysOnLine scan.old scan.new }
+{
+    this_word(scan, "fair")?;
+    line_end(scan)?;
+    draft.set_fair();
+    Ok(())
+}
+
+/// Reads the line or the table after the `memory` line. Returns whether it was the `end` line.
+#[tactic(auto, unfolding(crate::specs::Reading::second_line))]
+fn second_line(alloc: Global, scan: &mut Scan, draft: &mut Draft) -> Result<bool, SetupFault>
+    ensures exact { GoesOn lines_at (mode_after draft.new) result scan.new
+        (then_lines lines_at scan.old (second_line draft.old scan.old.words)) }
+    ensures shorter { OnOk result (length scan.new.lines ≤ length scan.old.lines) }
+    ensures some { IfOk result (λ ended. ended ≡ true → 1 ≤ length draft.new.boards) }
+{
+    let Some(word) = scan.next_word() else {
+        return Err(bad(scan, SetupKind::UnknownWord));
+    };
+    if is(word, "arbiter") {
+        arbiter_line(scan, draft)?;
+        return Ok(false);
     }
-    part(alloc, scan, draft, word)?;
-    Ok(false)
+    line_after(alloc, scan, draft, word)
 }
 
 /// Reads the words of the `memory` line.
 #[tactic(auto, unfolding(crate::specs::Reading::first_line))]
 fn memory_rest(alloc: Global, scan: &mut Scan) -> Result<Draft, SetupFault>
-    ensures value { Gives (λ d. Mode.body d) result scan.old.line (first_line scan.old.words) }
+    ensures value { Gives (λ d. Mode.headed d) result scan.old.line (first_line scan.old.words) }
     ensures stays { StaysOnLine scan.old scan.new }
 {
     this_word(scan, "memory")?;
@@ -152,7 +199,7 @@ fn memory_rest(alloc: Global, scan: &mut Scan) -> Result<Draft, SetupFault>
 
 /// Reads the first line, which is the `memory` line.
 fn memory_line(alloc: Global, scan: &mut Scan) -> Result<Draft, SetupFault>
-    ensures { GoesOn lines_at (λ d. Mode.body d) result scan.new (setup_at scan.old) }
+    ensures { GoesOn lines_at (λ d. Mode.headed d) result scan.new (setup_at scan.old) }
 {
     if !scan.next_line() {
         return Err(bad(scan, SetupKind::NoEnd));
@@ -171,18 +218,31 @@ fn text_end(scan: &mut Scan, draft: Draft) -> Result<Setup, SetupFault>
     Ok(draft.finish())
 }
 
+/// Reads the lines after others, up to the end of the text.
+fn rest(alloc: Global, scan: &mut Scan, mut draft: Draft) -> Result<Setup, SetupFault>
+    ensures { Answers (λ s. s) result (lines_at (Mode.body draft) scan.old.lines scan.old.end) }
+{
+    while scan.next_line() {
+        if line(alloc, scan, &mut draft)? {
+            return text_end(scan, draft);
+        }
+    }
+    Err(bad(scan, SetupKind::NoEnd))
+}
+
 fn setup(alloc: Global, bytes: &[u8]) -> Result<Setup, SetupFault>
     requires { length bytes.now < 2 ^ 31 }
     ensures { Answers (λ s. s) result (setup_at (unread bytes.now)) }
 {
     let mut scan = Scan::over(bytes);
     let mut draft = memory_line(alloc, &mut scan)?;
-    while scan.next_line() {
-        if line(alloc, &mut scan, &mut draft)? {
-            return text_end(&mut scan, draft);
-        }
+    if !scan.next_line() {
+        return Err(bad(&scan, SetupKind::NoEnd));
     }
-    Err(bad(&scan, SetupKind::NoEnd))
+    if second_line(alloc, &mut scan, &mut draft)? {
+        return text_end(&mut scan, draft);
+    }
+    rest(alloc, &mut scan, draft)
 }
 
 /// Reads a setup.

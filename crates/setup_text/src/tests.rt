@@ -47,6 +47,32 @@ fn memory_with_a_fault(rt: HostRuntime) -> Result<(), Fail> {
 }
 
 #[test]
+fn arbiter_lines_with_a_fault(rt: HostRuntime) -> Result<(), Fail> {
+    let rows = [
+        ("memory 1\narbiter\n", 2, SetupKind::UnknownWord),
+        ("memory 1\narbiter round\n", 2, SetupKind::UnknownWord),
+        ("memory 1\narbiter fair 1\n", 2, SetupKind::UnknownWord),
+        (
+            "memory 1\narbiter fair\narbiter fair\n",
+            3,
+            SetupKind::UnknownWord,
+        ),
+        (
+            "memory 1\nword 0 0\narbiter fair\n",
+            3,
+            SetupKind::UnknownWord,
+        ),
+        ("arbiter fair\n", 1, SetupKind::UnknownWord),
+        ("memory 1\narbiter fair\n", 3, SetupKind::NoEnd),
+    ];
+    for (text, line, kind) in rows {
+        let read = read_as_setup(rt.alloc(), text)?;
+        assert_eq!(rt; read, Err(SetupFault::Bad { line, kind }), "{text}");
+    }
+    Ok(())
+}
+
+#[test]
 fn tables_with_a_fault(rt: HostRuntime) -> Result<(), Fail> {
     let rows = [
         (
@@ -100,7 +126,7 @@ fn numbers_of_boards_with_a_fault(rt: HostRuntime) -> Result<(), Fail> {
             SetupKind::Number,
         ),
         (
-            "memory 1\ntable x\nend\nboard 1 number 256 table x plain choose first\n",
+            "memory 1\ntable x\nend\nboard 1 number 1024 table x plain choose first\n",
             4,
             SetupKind::Number,
         ),

@@ -8,7 +8,7 @@ ghost use Rattle.class_relation.specs.Tables.{IsWhole};
 ghost use Rattle.table_check.specs.declared.boards.BoardSpec.{BoardSpec};
 ghost use Rattle.setup.specs.Setup.{access_count};
 ghost use Rattle.table_text.specs.Writing.{table_room};
-ghost use Rattle.setup_text.specs.Spelling.{word_row, board_row, access_row, shape_words, choose_words, tables_rows, board_rows, setup_rows, AccessFits, ChooseFits};
+ghost use Rattle.setup_text.specs.Spelling.{arbiter_rows, word_row, board_row, access_row, shape_words, choose_words, tables_rows, board_rows, setup_rows, AccessFits, ChooseFits};
 ghost use Rattle.setup_text.specs.Correct.{IsSetup};
 ghost use Rattle.setup_text.specs.Writing.{words_from, text_of_table, text_of_board, boards_from, text_of, written_setup, setup_room, IsWholeSetup, places_behind};
 
@@ -64,6 +64,17 @@ fn line_of_two(text: &mut Text, name: &[u8], first: u64, second: u64)
     number(text, first);
     number(text, second);
     text.push(b"\n");
+}
+
+/// Appends the `arbiter` line of a fair setup.
+fn arbiter_line(text: &mut Text, fair: bool)
+    requires { 13 ≤ text.old.spare }
+    ensures bytes { text.new.bytes ≡ text.old.bytes ++ lines_bytes (arbiter_rows fair) }
+    ensures spare { text.old.spare ≤ text.new.spare + 13 }
+{
+    if fair {
+        text.push(b"arbiter fair\n");
+    }
 }
 
 /// Appends a line for each word of memory that is not 0.
@@ -224,7 +235,7 @@ fn all_boards(text: &mut Text, setup: &Setup)
 fn room(setup: &Setup) -> usize
     ensures { result ≡ setup_room setup.now }
 {
-    32 + 48 * setup.memory().len()
+    48 + 48 * setup.memory().len()
         + table_room() * setup.tables().len()
         + 176 * setup.boards().len()
         + 48 * setup.accesses() as usize
@@ -247,6 +258,7 @@ pub fn write_setup(setup: &Setup, text: &mut Text) -> Result<(), NoMemory>
     text.reserve(room(setup))?;
     let memory = setup.memory();
     line_of_one(text, b"memory", memory.len() as u64 / 4);
+    arbiter_line(text, setup.fair());
     word_lines(text, memory);
     all_tables(text, setup.tables());
     all_boards(text, setup);

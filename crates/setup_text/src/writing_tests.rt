@@ -40,14 +40,15 @@ fn setups_are_written(rt: HostRuntime) -> Result<(), Fail> {
              board 2 number 4 table un plain choose first\nend\n",
         ),
         (
-            "memory 2\nword 6 0\nword 5 1\nword 0 4294967295\nword 5 7\nword 1 2\nword 1 0\n\
-             table b\nend\ntable a\nS read = S\nend\n\
-             board 1 number 255 table a cached 1 256 choose round\nwrite 7 4294967295\npass 4\n\
+            "memory 2\narbiter fair # in turn\nword 6 0\nword 5 1\nword 0 4294967295\nword 5 7\n\
+             word 1 2\nword 1 0\ntable b\nend\ntable a\nS read = S\nend\n\
+             board 1 number 1023 table a cached 1 256 choose round\nwrite 7 4294967295\npass 4\n\
              board 2 number 1 table b plain choose first\n\
              board 3 number 17 table a cached 16 4 choose seed 18446744073709551615\nflush 0\n\
              read 1\nend",
-            "memory 2\nword 0 4294967295\nword 5 7\ntable b\nend\ntable a\nS read = S\nend\n\
-             board 1 number 255 table a cached 1 256 choose round\nwrite 7 4294967295\npass 4\n\
+            "memory 2\narbiter fair\nword 0 4294967295\nword 5 7\ntable b\nend\ntable a\n\
+             S read = S\nend\n\
+             board 1 number 1023 table a cached 1 256 choose round\nwrite 7 4294967295\npass 4\n\
              board 2 number 1 table b plain choose first\n\
              board 3 number 17 table a cached 16 4 choose seed 18446744073709551615\nflush 0\n\
              read 1\nend\n",

@@ -24,8 +24,8 @@ event_again (Grant by winner lines rounds) h =
     rw (
       board_again by h.0,
       board_again winner h.1,
-      number_between_again 1 255 lines (omega arith) h.2.0 h.2.1,
-      number_between_again 0 7 rounds (omega arith) (omega arith) h.3,
+      number_between_again 1 1023 lines (omega arith) h.2.0 h.2.1,
+      number_between_again 0 9 rounds (omega arith) (omega arith) h.3,
     ) refl
 event_again (Connect c) h =
     rw (

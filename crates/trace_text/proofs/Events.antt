@@ -123,9 +123,9 @@ grant_is ws e h = let G : Type 0 = IsSpelled (codes "grant" ∷ ws) e in
     by_this (codes "to") w₁ _ e G h (λ w₂ is₂ h.
     by_board w₂ _ e G h (λ winner w₃ is₃ other h.
     by_this (codes "lines") w₃ _ e G h (λ w₄ is₄ h.
-    by_number 1 255 (omega arith) w₄ _ e G h (λ n w₅ is₅ lines h.
+    by_number 1 1023 (omega arith) w₄ _ e G h (λ n w₅ is₅ lines h.
     by_this (codes "rounds") w₅ _ e G h (λ w₆ is₆ h.
-    by_number 0 7 (omega arith) w₆ _ e G h (λ r w₇ is₇ rounds h.
+    by_number 0 9 (omega arith) w₆ _ e G h (λ r w₇ is₇ rounds h.
     let end = ended_some (Grant b winner n r) w₇ e h in let is₈ : w₇ ≡ [] = end.0 in
     with_event (codes "grant" ∷ ws) (Grant b winner n r) e end.1 (cc) (board, other, lines, rounds.1))))))))
 

@@ -45,11 +45,11 @@ joined_length byte w (v ∷ ws) =
 pub board_short : (b : ℕ) → b ≤ 16 → length (decimal b) ≤ 2
 board_short b h = length-decimal-le 2 b (omega arith) (omega arith) (omega arith)
 
-pub digit_short : (n : ℕ) → n ≤ 7 → length (decimal n) ≤ 1
+pub digit_short : (n : ℕ) → n ≤ 9 → length (decimal n) ≤ 1
 digit_short n h = length-decimal-le 1 n (omega arith) (omega arith) (omega arith)
 
-pub lines_short : (n : ℕ) → n ≤ 255 → length (decimal n) ≤ 3
-lines_short n h = length-decimal-le 3 n (omega arith) (omega arith) (omega arith)
+pub lines_short : (n : ℕ) → n ≤ 1023 → length (decimal n) ≤ 4
+lines_short n h = length-decimal-le 4 n (omega arith) (omega arith) (omega arith)
 
 pub line_short : (l : ℕ) → l ≤ 4095 → length (decimal l) ≤ 4
 line_short l h = length-decimal-le 4 l (omega arith) (omega arith) (omega arith)

@@ -81,7 +81,7 @@ InRange (Local b before after done) = IsBoard b × IsDone done
 InRange (Drop b l before) = IsBoard b × IsLine l
 InRange (Raise b) = IsBoard b
 InRange (Grant by winner lines rounds) =
-    IsBoard by × IsBoard winner × ((1 ≤ lines) × (lines ≤ 255)) × (rounds ≤ 7)
+    IsBoard by × IsBoard winner × ((1 ≤ lines) × (lines ≤ 1023)) × (rounds ≤ 9)
 InRange (Connect c) = IsBoard c.master × IsLine c.line × AreAnswers c.answers
 InRange (DataPhase d) =
     IsBoard d.master × IsLine d.line × IsSource d.source × ArePlaces d.takers.boards

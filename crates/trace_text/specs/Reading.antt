@@ -269,8 +269,8 @@ grant_at ws =
     by board_of ws >>= λ b.
     this (codes "to") b.1 >>=
     λ to. by board_of to >>= λ winner. this (codes "lines") winner.1 >>= λ lines.
-    by (number_between 1 255) lines >>=
-    λ n. this (codes "rounds") n.1 >>= λ rounds. by (number_between 0 7) rounds >>= λ r.
+    by (number_between 1 1023) lines >>=
+    λ n. this (codes "rounds") n.1 >>= λ rounds. by (number_between 0 9) rounds >>= λ r.
     ended (Grant b.0 winner.0 n.0 r.0) r.1
 
 -- The connect phase of a transaction.

@@ -12,10 +12,10 @@
 //! data B EVENT line L from SOURCE into TAKERS states STATES done DONE
 //! ```
 //!
-//! B is a board from 1 to 16, L a line from 0 to 4,095, N from 1 to 255 and R from 0 to 7. A number
-//! is `0`, or digits of which the first is not 0. `specs/Spelling.antt` has the words of each
-//! event, and `specs/Ranges.antt` which events are spelled. No line begins another, and none has
-//! more than 253 bytes. No call here takes memory.
+//! B is a board from 1 to 16, L a line from 0 to 4,095, N from 1 to 1,023 and R from 0 to 9. A
+//! number is `0`, or digits of which the first is not 0. `specs/Spelling.antt` has the words of
+//! each event, and `specs/Ranges.antt` which events are spelled. No line begins another, and none
+//! has more than 253 bytes. No call here takes memory.
 #![tactic(auto)]
 
 mod lists;

@@ -239,9 +239,9 @@ fn grant(line: &mut Pieces) -> Option<Event>
     this(line, "to")?;
     let winner = next_board(line)?;
     this(line, "lines")?;
-    let lines = next_number(line, 1, 255)?;
+    let lines = next_number(line, 1, 1023)?;
     this(line, "rounds")?;
-    let rounds = next_number(line, 0, 7)?;
+    let rounds = next_number(line, 0, 9)?;
     at_end(
         line,
         Event::Grant {

@@ -337,16 +337,16 @@ fn raise(text: &mut Text, place: BoardNo)
 
 #[tactic(auto, using(crate::proofs::Lengths::lines_short))]
 fn settled(text: &mut Text, lines: u16)
-    requires lines { lines ≤ 255 }
-    requires room { 4 ≤ text.old.spare }
-    ensures appends { Appends text.old text.new (32 ∷ decimal lines) 4 }
+    requires lines { lines ≤ 1023 }
+    requires room { 5 ≤ text.old.spare }
+    ensures appends { Appends text.old text.new (32 ∷ decimal lines) 5 }
 {
     number(text, u64::from(lines));
 }
 
 #[tactic(auto, using(crate::proofs::Lengths::digit_short))]
 fn round_count(text: &mut Text, rounds: u8)
-    requires rounds { rounds ≤ 7 }
+    requires rounds { rounds ≤ 9 }
     requires room { 2 ≤ text.old.spare }
     ensures appends { Appends text.old text.new (32 ∷ decimal rounds) 2 }
 {
@@ -355,8 +355,8 @@ fn round_count(text: &mut Text, rounds: u8)
 
 fn grant(text: &mut Text, by: BoardNo, winner: BoardNo, lines: u16, rounds: u8)
     requires boards { IsBoard by × IsBoard winner }
-    requires lines { lines ≤ 255 }
-    requires rounds { rounds ≤ 7 }
+    requires lines { lines ≤ 1023 }
+    requires rounds { rounds ≤ 9 }
     requires room { 252 ≤ text.old.spare }
     ensures appends { Appends text.old text.new
         (spaced (event_words (Event.Grant by winner lines rounds))) 252 }

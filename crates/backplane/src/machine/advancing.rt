@@ -1,11 +1,12 @@
 //! A turn of a board.
 
-ghost use Rattle.std.specs.Prelude.{◌≡◌, ◌≤◌, false, length};
+ghost use Rattle.std.specs.Prelude.{◌≡◌, ◌≤◌, true, false, length};
 ghost use Rattle.bus_model.specs.Events.{Event};
 ghost use Rattle.bus_model.specs.Configuration.{is_connected};
 ghost use Rattle.bus_model.specs.Turns.{Did};
 ghost use Rattle.bus_model.specs.Runs.{Run};
 ghost use Rattle.bus_model.specs.Entries.{entries, Legal};
+ghost use Rattle.bus_model.specs.Fairness.{GrantsAreFair};
 ghost use Rattle.bus_model.specs.Soundness.{Sound};
 ghost use Rattle.backplane.specs.Machine.{configuration, IsBoard, MayHappen};
 ghost use Rattle.backplane.specs.Moves.{told, moved, turn_of};
@@ -89,6 +90,8 @@ impl Machine {
         ensures run { Run self.new.setup self.new.journal (configuration self.new) }
         ensures sound { Sound self.new.setup self.new.journal (configuration self.new) }
         ensures legal { Legal self.new.setup.memory (entries self.new.journal) }
+        ensures fair { self.new.setup.fair ≡ true
+            → GrantsAreFair self.new.journal (configuration self.new).boards }
         ensures events { length self.new.journal ≤ (needed self.new.setup).events }
         ensures replies { reply_count self.new ≤ (needed self.new.setup).replies }
         ensures rows { length (configuration self.new).rows ≤ (needed self.new.setup).frames }

@@ -1,10 +1,11 @@
 //! Applying a given event: it is done if it may happen, and refused if it may not.
 
-ghost use Rattle.std.specs.Prelude.{◌≡◌, ◌↔◌, ◌≤◌, IsOk, IsSome, IsTrue, OnErr, OnOk, length};
+ghost use Rattle.std.specs.Prelude.{true, ◌≡◌, ◌↔◌, ◌≤◌, IsOk, IsSome, IsTrue, OnErr, OnOk, length};
 ghost use Rattle.bus_model.specs.Configuration.{present_access};
 ghost use Rattle.bus_model.specs.Events.{DataPhase};
 ghost use Rattle.bus_model.specs.Runs.{Run};
 ghost use Rattle.bus_model.specs.Entries.{entries, Legal};
+ghost use Rattle.bus_model.specs.Fairness.{GrantsAreFair};
 ghost use Rattle.bus_model.specs.Soundness.{Sound};
 ghost use Rattle.backplane.specs.Machine.{IsBoard, MayHappen, configuration, happened};
 ghost use Rattle.backplane.specs.Needs.{needed, reply_count};
@@ -126,6 +127,8 @@ impl Machine {
         ensures run { Run self.new.setup self.new.journal (configuration self.new) }
         ensures sound { Sound self.new.setup self.new.journal (configuration self.new) }
         ensures legal { Legal self.new.setup.memory (entries self.new.journal) }
+        ensures fair { self.new.setup.fair ≡ true
+            → GrantsAreFair self.new.journal (configuration self.new).boards }
         ensures events { length self.new.journal ≤ (needed self.new.setup).events }
         ensures replies { reply_count self.new ≤ (needed self.new.setup).replies }
         ensures rows { length (configuration self.new).rows ≤ (needed self.new.setup).frames }

@@ -84,7 +84,7 @@ fn two_writes(alloc: Global) -> Result<Setup, Fail> {
     let tables = Vec::from_array(alloc, [copy_back(alloc, name)?])?;
     let boards = Vec::from_array(alloc, [board])?;
     let scripts = Vec::from_array(alloc, [Vec::from_array(alloc, script)?])?;
-    Ok(Setup::of(memory, tables, boards, scripts))
+    Ok(Setup::of(memory, false, tables, boards, scripts))
 }
 
 // The second write takes eight events: the line that was written before has to go first, by a

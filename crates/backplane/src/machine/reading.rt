@@ -1,12 +1,13 @@
 //! What the machine shows.
 
-ghost use Rattle.std.specs.Prelude.{◌≡◌, ◌↔◌, ◌*◌, ◌<◌, ◌≤◌, ℕ, Some, None, IsTrue, IsNone, length, find, is_some, option_map, slice_get};
+ghost use Rattle.std.specs.Prelude.{true, ◌≡◌, ◌↔◌, ◌*◌, ◌<◌, ◌≤◌, ℕ, Some, None, IsTrue, IsNone, length, find, is_some, option_map, slice_get};
 ghost use Rattle.bus_signals.specs.declared.Access.{Access};
 ghost use Rattle.moesi_state.specs.declared.State.TheVariants.{I};
 ghost use Rattle.bus_model.specs.Setup.{line_count, access_count, board_places, WellFormed, AllInClass};
 ghost use Rattle.bus_model.specs.Configuration.{Row, row_at, state_at, memory_line, present_access};
 ghost use Rattle.bus_model.specs.Runs.{Run, Complete};
 ghost use Rattle.bus_model.specs.Entries.{entries, entries_of, Legal};
+ghost use Rattle.bus_model.specs.Fairness.{GrantsAreFair};
 ghost use Rattle.bus_model.specs.Soundness.{Sound};
 ghost use Rattle.backplane.specs.Machine.{configuration, IsBoard};
 ghost use Rattle.backplane.specs.Needs.{needed, reply_count};
@@ -45,6 +46,8 @@ impl Machine {
         ensures run { Run self.now.setup self.now.journal (configuration self.now) }
         ensures sound { Sound self.now.setup self.now.journal (configuration self.now) }
         ensures legal { Legal self.now.setup.memory (entries self.now.journal) }
+        ensures fair { self.now.setup.fair ≡ true
+            → GrantsAreFair self.now.journal (configuration self.now).boards }
         ensures bounded { length self.now.journal ≤ 8 * access_count self.now.setup }
     {
         &self.journal

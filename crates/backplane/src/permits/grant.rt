@@ -7,7 +7,7 @@ ghost use Rattle.bus_model.specs.Setup.{number_of};
 ghost use Rattle.bus_model.specs.Configuration.{Idle};
 ghost use Rattle.bus_model.specs.Events.{Grant};
 ghost use Rattle.backplane.specs.Parts.{IsPartOf, phase_of};
-ghost use Rattle.backplane.specs.Permits.{AreOfOneSetup, HasRaised, Tells, does_settle};
+ghost use Rattle.backplane.specs.Permits.{AreOfOneSetup, Competes, HasRaised, Tells, does_settle};
 
 use crate::parts::Parts;
 use crate::permits::same::all_hold;
@@ -32,6 +32,17 @@ fn has_raised(parts: &Parts, board: BoardNo) -> bool
     parts.requests.raised(board)
 }
 
+/// Whether a board competes for the bus. It may be a board that the machine does not have.
+fn competes(parts: &Parts, board: BoardNo) -> bool
+    requires { AreOfOneSetup parts.now }
+    ensures { IsTrue result ↔ Competes parts.now board }
+{
+    if board.0 == 0 || board.0 > parts.rack.boards() {
+        return false;
+    }
+    parts.requests.competes(board)
+}
+
 /// Whether the lines settle to these, in this many rounds, and show the number of the winner.
 fn settles(parts: &Parts, winner: BoardNo, lines: u16, rounds: u8) -> bool
     requires { IsPartOf parts.now winner }
@@ -53,19 +64,19 @@ fn settles(parts: &Parts, winner: BoardNo, lines: u16, rounds: u8) -> bool
 fn wins(parts: &Parts, winner: BoardNo, lines: u16, rounds: u8) -> bool
     requires { AreOfOneSetup parts.now }
     ensures { IsTrue result
-        ↔ (HasRaised parts.now winner
+        ↔ (Competes parts.now winner
         × IsTrue (does_settle (competitors parts.now.requests)
         (number_of (setup_of parts.now.rack) winner) lines rounds)) }
 {
-    if !has_raised(parts, winner) {
+    if !competes(parts, winner) {
         return false;
     }
     settles(parts, winner, lines, rounds)
 }
 
-/// Whether the bus may be granted to the winner in the turn of `by`: the bus is idle, both have
-/// raised a request, the lines settle to these in this many rounds, and they show the winner's
-/// number.
+/// Whether the bus may be granted to the winner in the turn of `by`: the bus is idle, `by` has
+/// raised a request, the winner competes, the lines settle to these in this many rounds, and they
+/// show the winner's number.
 pub fn permits_grant(parts: &Parts, by: BoardNo, winner: BoardNo, lines: u16, rounds: u8) -> bool
     requires { AreOfOneSetup parts.now }
     ensures { Tells parts.now (Grant by winner lines rounds) result }

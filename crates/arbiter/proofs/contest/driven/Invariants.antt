@@ -6,4 +6,4 @@ abbrev pub decreases-loop-bit : goal.decreases-loop-bit
 decreases-loop-bit l = l.bit
 
 abbrev pub invariant-loop-bit : goal.invariant-loop-bit
-invariant-loop-bit l = (l.bit ≤ 8) × (driven_below 8 l.lines l.number ≡ driven_below l.bit l.lines l.number)
+invariant-loop-bit l = (l.bit ≤ 10) × (driven_below 10 l.lines l.number ≡ driven_below l.bit l.lines l.number)

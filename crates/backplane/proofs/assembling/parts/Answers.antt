@@ -17,8 +17,8 @@ new-requires-2 c =
 pub returns : goal.returns
 returns c =
     let setup = c.args.setup.now in
-    parts-open setup _ c.args.tables.items c.in-Ok-copied.words.items c.in-Ok-numbers.numbers.items
-    c.boards.ensures.sound c.requires
+    parts-open setup _ c.args.tables.items c.in-Ok-copied.words.items c.in-Ok-numbers.numbers.items c.fair.result
+    c.boards.ensures.sound c.fair.ensures.fair c.requires
     (c.in-Ok.ensures ∙ ap (λ (bs : List BoardSpec). empty_rack c.args.tables.items bs) c.boards.ensures.boards)
     (c.in-Ok-copied.ensures ∙ c.memory.ensures.memory) c.new.ensures
     (c.in-Ok-numbers.ensures ∙ ap (map (λ (spec : BoardSpec). spec.number)) c.boards-2.ensures.boards) c.new-2.ensures

@@ -1,6 +1,7 @@
 use Rattle.bus_model.proofs.WorkedRuns
 use Rattle.bus_model.proofs.WorkedRoom
 use Rattle.bus_model.proofs.WorkedCopies
+use Rattle.bus_model.proofs.WorkedFair
 use Rattle.bus_model.proofs.runs.small_runs_are_played.Goals as goal
 
 pub returns-clause-intervention : goal.returns-clause-intervention
@@ -35,3 +36,9 @@ returns-clause-clean_victim c = WorkedCopies.clean_victim_plays
 
 pub returns-clause-captured : goal.returns-clause-captured
 returns-clause-captured c = WorkedCopies.captured_plays
+
+pub returns-clause-passed_over : goal.returns-clause-passed_over
+returns-clause-passed_over c = WorkedFair.passed_over_plays
+
+pub returns-clause-starving : goal.returns-clause-starving
+returns-clause-starving c = WorkedFair.starving_plays

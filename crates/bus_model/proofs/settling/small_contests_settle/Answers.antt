@@ -12,3 +12,15 @@ returns-clause-rounds c = Contests.three_rounds
 
 pub returns-clause-alone : goal.returns-clause-alone
 returns-clause-alone c = Contests.alone_rounds
+
+pub returns-clause-ten_bits : goal.returns-clause-ten_bits
+returns-clause-ten_bits c = Contests.ten_bits
+
+pub returns-clause-ten_bits_settled : goal.returns-clause-ten_bits_settled
+returns-clause-ten_bits_settled c = Contests.ten_bits_settled
+
+pub returns-clause-ten_bits_rounds : goal.returns-clause-ten_bits_rounds
+returns-clause-ten_bits_rounds c = Contests.ten_bits_rounds
+
+pub returns-clause-no_eleventh : goal.returns-clause-no_eleventh
+returns-clause-no_eleventh c = Contests.no_eleventh

@@ -5,7 +5,7 @@ use Rattle.backplane.proofs.parts.Parts.plan_grant.Goals as goal
 pub returns-in-Some : goal.returns-in-Some
 returns-in-Some c = λ setup events x sound s.
     grant-told setup x c.args.self.now c.args.board c.in-Some.grant.winner c.in-Some.grant.settled.lines
-    c.in-Some.grant.settled.rounds s sound.parts.boards
+    c.in-Some.grant.settled.rounds s sound.parts
     c.in-Some.ensures.first c.in-Some.ensures.lines c.in-Some.ensures.rounds
 
 pub returns-in-None : goal.returns-in-None

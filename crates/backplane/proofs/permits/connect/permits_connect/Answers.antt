@@ -1,4 +1,4 @@
-use Rattle.std.proofs.Common.{[], ap, ◌∙◌}
+use Rattle.std.proofs.Common.{false, [], ap, ◌∙◌}
 use Rattle.bus_model.specs.Configuration.{is_granted}
 use Rattle.bus_model.specs.Setup.{Setup}
 use Rattle.backplane.specs.Permits.{do_answers_fit}
@@ -20,7 +20,7 @@ returns c = λ setup events x sound present.
     (c.do_answers_fit-answers.ensures
     ∙ (λ i.
     let s : Setup =
-    record { memory = []; tables = shows.tables i; boards = shows.boards i; scripts = [] } in
+    record { memory = []; fair = false; tables = shows.tables i; boards = shows.boards i; scripts = [] } in
     do_answers_fit s (shows.rack.rows i) t.line t.event
     (other_holders s (shows.rack.rows i) t.master t.line) t.answers))
     present)

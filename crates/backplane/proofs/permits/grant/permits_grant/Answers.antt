@@ -5,7 +5,7 @@ use Rattle.backplane.proofs.permits.grant.permits_grant.Goals as goal
 pub returns : goal.returns
 returns c = λ setup events x sound.
     as_well c.all_hold.result _ _ c.all_hold.ensures
-    (grant_told setup x c.args.parts.now sound.shows c.requires sound.sound.parts.boards c.args.by c.args.winner
+    (grant_told setup x c.args.parts.now sound.shows c.requires sound.sound.parts c.args.by c.args.winner
     c.args.lines c.args.rounds
     c.is_idle-idle.result c.has_raised-raised.result c.wins-wins.result c.is_idle-idle.ensures
     c.has_raised-raised.ensures c.wins-wins.ensures)
