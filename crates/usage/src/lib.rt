@@ -3,7 +3,7 @@
 #![tactic(auto)]
 
 ghost use Rattle.std.specs.Prelude.{◌≡◌, option_map};
-ghost use Rattle.usage.specs.Usage.{help_text, page_named, pages, version_text};
+ghost use Rattle.usage.specs.Usage.{help_text, other_pages, page_named, pages, version_text};
 
 #[cfg(test)]
 mod tests;
@@ -71,6 +71,15 @@ pub fn page_named(name: &str) -> Option<&'static str>
              example: ./futurebus race examples/tour.setup\n\
              statuses: 0 1 3 4 5 6 7\n",
         ),
+        _ => other_page_named(name),
+    }
+}
+
+/// The same of a command that takes no file.
+fn other_page_named(name: &str) -> Option<&'static str>
+    ensures { option_map (λ text. text.now) result ≡ page_named name.now other_pages }
+{
+    match name {
         "make" => Some(
             "make NUMBER: prints the generated setup of a number\n\
              example: ./futurebus make 1\n\
