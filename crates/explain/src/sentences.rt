@@ -129,7 +129,8 @@ fn say_late(text: &mut Text, word: &str, after: &str) -> Result<(), NoMemory> {
     say(text, after)?;
     say(
         text,
-        ". The order is memory, arbiter (if any), word lines, tables, boards with their accesses, end.\n",
+        ". The order is memory, arbiter (if any), word lines, tables, \
+         boards with their accesses, end.\n",
     )
 }
 
@@ -212,13 +213,15 @@ fn say_other(text: &mut Text, fault: &Fault) -> Result<(), NoMemory> {
         Why::NoAlternative => {
             say(
                 text,
-                "The cell has no alternative. Expected a state (M, O, E, S or I) or CH:x/y after =.\n",
+                "The cell has no alternative. \
+                 Expected a state (M, O, E, S or I) or CH:x/y after =.\n",
             )
         }
         Why::Empty => {
             say(
                 text,
-                "The text is empty. A setup begins with memory LINES, and a text of tables with table NAME.\n",
+                "The text is empty. A setup begins with memory LINES, \
+                 and a text of tables with table NAME.\n",
             )
         }
         Why::LateArbiter => {

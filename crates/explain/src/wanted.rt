@@ -15,7 +15,8 @@ pub fn name_of(wanted: Wanted) -> &'static str {
         Wanted::Outcome => "a result, which is a state or one word like CH:S/E",
         Wanted::BusEventOrBar => "a bus event, | with another alternative, or the end of the line",
         Wanted::SignalOrBar =>
-            "the signals of an answer in this order, | with another alternative, or the end of the line",
+            "the signals of an answer in this order, | with another alternative, \
+             or the end of the line",
         Wanted::Bar => "| with another alternative, or the end of the line",
         Wanted::Shape => "the cache of the board (cached SETS WAYS, or plain)",
         Wanted::Choose => "how the board chooses",

@@ -14,7 +14,8 @@ pub fn help_text() -> &'static str
 {
     "check FILE: judges each table of a text of tables or of a setup\n\
      show SETUP: prints the written spelling of a setup\n\
-     run SETUP SCHEDULE, or run SETUP seed NUMBER: prints the run of a setup by a schedule, or by drawn turns\n\
+     run SETUP SCHEDULE, or run SETUP seed NUMBER: \
+     prints the run of a setup by a schedule, or by drawn turns\n\
      replay SETUP TRACE: prints the ending of the run that a trace tells\n\
      race SETUP: prints a run of a setup in which each board has a thread\n\
      make NUMBER: prints the generated setup of a number\n\
@@ -57,7 +58,8 @@ pub fn page_named(name: &str) -> Option<&'static str>
              statuses: 0 3 4 5 6 7\n",
         ),
         "run" => Some(
-            "run SETUP SCHEDULE, or run SETUP seed NUMBER: prints the run of a setup by a schedule, or by drawn turns\n\
+            "run SETUP SCHEDULE, or run SETUP seed NUMBER: \
+             prints the run of a setup by a schedule, or by drawn turns\n\
              example: ./futurebus run examples/tour.setup seed 1\n\
              statuses: 0 1 3 4 5 6 7\n",
         ),
