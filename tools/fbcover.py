@@ -30,6 +30,11 @@ def needed(table):
                 yield state, event
 
 
+def without_swaps(table):
+    """The cells of a table but those of swaps, for a setup that has none."""
+    return {cell: alternatives for cell, alternatives in table.items() if cell[1] not in ("swap", "usw")}
+
+
 class Coverage:
     """The counts of a setup's boards: how often a board took an alternative of a cell."""
 
@@ -59,7 +64,10 @@ class Coverage:
             boards = [board.place for board in self.setup.boards if board.table == name]
             if not boards:
                 continue
-            cells = list(needed(table))
+            has_swaps = any(access.startswith("swap ") for board in self.setup.boards for access in board.script)
+            if not has_swaps:
+                table = without_swaps(table)
+            cells = [cell for cell in needed(table) if has_swaps or cell[1] not in ("swap", "usw")]
             wanted = set(cells)
             cells += [cell for cell in table if cell not in wanted]
             counted = [self.taken(boards, cell, table.get(cell, [])) for cell in cells]

@@ -82,6 +82,12 @@ fn tables_with_a_fault(rt: HostRuntime) -> Result<(), Fail> {
         ),
         ("memory 1\ntable un\nI read =\n", 3, SetupKind::NoCell),
         ("memory 1\ntable Un\n", 2, SetupKind::UnknownWord),
+        ("memory 1\ntable x version 3\nend\n", 2, SetupKind::Number),
+        (
+            "memory 1\ntable x\nI swap = I usw\n",
+            3,
+            SetupKind::UnknownWord,
+        ),
         (
             "memory 1\ntable x\nend\ntable x\nend\n",
             4,
@@ -250,7 +256,12 @@ fn texts_of_tables_are_read(rt: HostRuntime) -> Result<(), Fail> {
         ("table x\nI read =\n", bad(2, SetupKind::NoCell)),
         ("table x\nend\ntable x\n", bad(3, SetupKind::TwiceName)),
         ("table x\nend\nmemory 1\n", bad(3, SetupKind::UnknownWord)),
-        ("table x\nend\ntable y\nend\n", Ok(2)),
+        ("table x version\n", bad(1, SetupKind::Number)),
+        ("table x v2\n", bad(1, SetupKind::UnknownWord)),
+        (
+            "table x version 2\nI swap = I usw\nend\ntable y\nend\n",
+            Ok(2),
+        ),
     ];
     for (text, wanted) in rows {
         assert_eq!(rt; tables_in(rt.alloc(), text)?, wanted, "{text}");
