@@ -1,4 +1,4 @@
--- What the definitions of the theorem say of small lines, histories, configurations and runs, each computed.
+-- What the definitions of the theorem say about small lines, histories, configurations and runs, each computed.
 use Rattle.std.proofs.Common.{◌≡◌, ℕ, zero, suc, ◌≤◌, [], ◌∷◌, Option, None, refl, arith}
 use Rattle.moesi_state.specs.declared.State.TheVariants.{M, O, E, S}
 use Rattle.bus_model.specs.Settling.{lines_after, driven_below, rounds_from}

@@ -30,8 +30,8 @@ pub fn small_lines_are_judged()
     ensures no_stale_memory { ¬ (LineCoherent (copy 1 0 S new_words 0 ∷ []) old_words new_words) }
 {}
 
-/// No step is a silent write or swap of a line that is held, a grant to another board than the highest, or
-/// the drop of a victim that its board owns.
+/// None of these is a step: a silent write or swap to a line that is held, a grant to a board other
+/// than the highest, or the drop of a victim that its board owns.
 pub fn small_steps_are_judged()
     ensures no_write_to_a_held_line { ¬
         (Can gap between_phases (Local 1 E M (did (write 0 9) None))) }

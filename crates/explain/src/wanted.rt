@@ -10,10 +10,12 @@ pub fn name_of(wanted: Wanted) -> &'static str {
         Wanted::Word(_) => "one word",
         Wanted::Name => "a name: a letter a-z, then letters a-z, digits and -, at most 32 bytes",
         Wanted::Cell => "a line that begins with a state, or end",
-        Wanted::Event => "an access or a bus event",
+        Wanted::Version => "version 2, or the end of the line",
+        Wanted::Event { .. } => "an access or a bus event",
         Wanted::State => "the state of an answer",
         Wanted::Outcome => "a result, which is a state or one word like CH:S/E",
-        Wanted::BusEventOrBar => "a bus event, | with another alternative, or the end of the line",
+        Wanted::BusEventOrBar { .. } =>
+            "a bus event, | with another alternative, or the end of the line",
         Wanted::SignalOrBar =>
             "the signals of an answer in this order, | with another alternative, or the end of the line",
         Wanted::Bar => "| with another alternative, or the end of the line",
@@ -31,22 +33,42 @@ pub fn words_of(wanted: Wanted) -> &'static [&'static str] {
     match wanted {
         Wanted::Memory => &["memory"],
         Wanted::Part => &[
-            "word", "table", "board", "read", "write", "pass", "flush", "end",
+            "word", "table", "board", "read", "write", "pass", "flush", "swap", "end",
         ],
         Wanted::Word(text) => one_word(text),
         Wanted::Cell => &["M", "O", "E", "S", "I", "end"],
-        Wanted::Event => &[
-            "read", "write", "pass", "flush", "rd", "rfo", "inv", "urd", "bwr", "uwr", "ubw",
-            "pas", "flu",
-        ],
+        Wanted::Version => &["version"],
+        Wanted::Event { version } => events_of(version),
         Wanted::State | Wanted::Outcome => &["M", "O", "E", "S", "I"],
-        Wanted::BusEventOrBar => &["rd", "rfo", "inv", "urd", "bwr", "uwr", "ubw", "pas", "flu"],
+        Wanted::BusEventOrBar { version } => bus_events_of(version),
         Wanted::SignalOrBar => &["CH", "DI", "SL"],
         Wanted::Shape => &["cached", "plain"],
         Wanted::Choose => &["first", "round", "seed"],
         Wanted::Table => &["table"],
         Wanted::Name | Wanted::Bar | Wanted::LineEnd | Wanted::TextEnd => &[],
     }
+}
+
+/// The words of the cells of a table of a version: accesses, then bus events.
+fn events_of(version: u8) -> &'static [&'static str] {
+    if version == 1 {
+        return &[
+            "read", "write", "pass", "flush", "rd", "rfo", "inv", "urd", "bwr", "uwr", "ubw",
+            "pas", "flu",
+        ];
+    }
+    &[
+        "read", "write", "pass", "flush", "swap", "rd", "rfo", "inv", "urd", "bwr", "uwr", "ubw",
+        "pas", "flu", "usw",
+    ]
+}
+
+/// The bus events that a table of a version names.
+fn bus_events_of(version: u8) -> &'static [&'static str] {
+    if version == 1 {
+        return &["rd", "rfo", "inv", "urd", "bwr", "uwr", "ubw", "pas", "flu"];
+    }
+    &["rd", "rfo", "inv", "urd", "bwr", "uwr", "ubw", "pas", "flu", "usw"]
 }
 
 fn one_word(text: &'static str) -> &'static [&'static str] {

@@ -26,12 +26,12 @@ use Rattle.setup_text.specs.Standing.{StandsSoFar}
 use Rattle.setup_text.specs.Grammars.{setup_grammar, BreaksSetup, JudgedFirst, JudgedTableWord}
 use Rattle.setup_text.specs.Drafts.{with_fair, with_word, with_access}
 use Rattle.setup_text.specs.Reading.{Mode, body, in_table, value_line, address_line, word_line, head_line, table_head, board_added, access_of, access_line, access_read, end_line, maybe_access, body_line, this_word, line_ends, arbiter_line, second_line}
-use Rattle.setup_text.proofs.LineWords.{binds, is_word, word_read, nothing_read, head_read}
+use Rattle.setup_text.proofs.LineWords.{binds, is_word, word_read, nothing_read, ReadsHead, head_read}
 use Rattle.setup_text.proofs.Parts.{Opener, text, is_bare}
 use Rattle.setup_text.proofs.Follows.{Follows, arbiter, word as word_follows, head, next, board, access, ends, follows, next_arbiter, next_word, next_head, next_access, next_end, begins_by}
 use Rattle.setup_text.proofs.SetupAgain.{first_word}
 use Rattle.setup_text.proofs.OneText.{breaks_body}
-use Rattle.setup_text.proofs.HeadLines.{head_stops, head_free}
+use Rattle.setup_text.proofs.HeadLines.{Heads, head_stops, head_free}
 use Rattle.setup_text.proofs.LineFaults.{spelled, same_breaks, same_unfit, no_row, differ, FreeHere, free_nil, free_push, free_from, arbiter_is_free, word_is_free, end_is_free, event_is_free, Begins, Faulty, unfit_at, judged_at, refused_at, Refused, WordTail, EndTail, word_refused, end_refused, only_arbiter, only_word, only_head, only_end, EventTail, only_access}
 use Rattle.setup_text.proofs.BoardRefused.{board_stops, board_passes}
 use Rattle.setup_text.proofs.AddressFaults.{one_stops, one_passes, two_stops, two_passes}
@@ -439,8 +439,6 @@ module _ (rest : List Place) (line : ℕ) where
           (λ x y a b. begins_there (accesses.Write x y) (codes "write" ∷ decimal x ∷ decimal y ∷ []) [] (a, b) refl)
           (λ t others f. expects_access events.Write t others f) l a e
 
-  module _ (n : Opener) (ws : List (ℕ × ℕ)) (ts : List TableText) (bs : List BoardText)
-      (h : StandsSoFar (text n ws ts bs)) (some : 0 < length bs) where
       swap_stops :
           (l : Words) (k : SetupKind) → value_line (length (setup_of (text n ws ts bs)).memory) l ≡ Err k
           → Faulty (text n ws ts bs) line (codes "swap" ∷ l) rest k
@@ -467,8 +465,8 @@ module _ (rest : List Place) (line : ℕ) where
           (λ x y a b. begins_there (accesses.Swap x y) (codes "swap" ∷ decimal x ∷ decimal y ∷ []) [] (a, b) refl)
           (λ t others f. expects_access events.Swap t others f) l a e
 
-  module _ (n : ℕ) (ws : List (ℕ × ℕ)) (ts : List TableText) (bs : List BoardText) (h : StandsSoFar (text n ws ts bs))
-      (some : 0 < length bs) where
+  module _ (n : Opener) (ws : List (ℕ × ℕ)) (ts : List TableText) (bs : List BoardText)
+      (h : StandsSoFar (text n ws ts bs)) (some : 0 < length bs) where
     there :
         (a : Access) (words more : Words) → AccessFits a → access_row a ≡ words ++ more → Begins (text n ws ts bs) words
     there a words more fits e = begins_there n ws ts bs h some a words more fits e

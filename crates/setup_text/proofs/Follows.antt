@@ -8,7 +8,8 @@ use Rattle.fb_text.proofs.LineLaws.{HasNext, BeginsLine}
 use Rattle.bus_signals.specs.declared.Access.{Access}
 use Rattle.bus_signals.specs.declared.Access.TheVariants as accesses
 use Rattle.class_relation.specs.Names.{is_name}
-use Rattle.table_text.specs.Spelling.{CellLine, local, answer, cell_words, HasAlternative}
+use Rattle.table_text.specs.Spelling.{CellLine, local, answer, cell_words, version_words, IsVersion, IsLineOf}
+use Rattle.table_text.proofs.Versions.{version_by_words}
 use Rattle.setup_text.specs.Spelling.{TableText, BoardText, SetupText, end_row, memory_row, arbiter_row, arbiter_rows, word_row, head_row, board_row, access_row, open_table_rows, table_rows, board_rows, tables_rows, open_rows, setup_rows, AccessFits, WordFits, TableFits, BoardFits, SetupFits}
 use Rattle.setup_text.specs.Grammars.{setup_grammar}
 use Rattle.setup_text.proofs.Growing.{each_push, each_before}
@@ -330,8 +331,11 @@ follows_open s r t l others known none fits e =
     no_words (v ∷ vs) us ds fu [] e = absurd cc
     no_words (v ∷ vs) us ds fu (u ∷ ts) e = absurd cc
 
-    go : Behind s (open_table_rows t ++ l ∷ others) → InTable t.version l
-    go (vs, us, ds, fv, fu, fd, e) =
+    go :
+        Behind s (open_table_rows t ++ l ∷ others) ⊎ IsArbiter s (open_table_rows t ++ l ∷ others)
+        → InTable t.version l
+    go (inr (bare, more, e)) = absurd cc
+    go (inl (vs, us, ds, fv, fu, fd, e)) =
         no_words vs us ds fu s.tables
         (ap (λ (x : List BoardText). tables_rows s.tables ++ (boards_rows x ++ (open_table_rows t ++ l ∷ others)))
         (sym none) ∙ e)
@@ -376,7 +380,7 @@ next_word n ws w fits f =
     (rows_word n ws w)
 
 pub next_head :
-    (n : ℕ) (ws : List (ℕ × ℕ)) (ts : List TableText) (name : List ℕ) (version : ℕ) → SetupFits (text n ws ts [])
+    (n : Opener) (ws : List (ℕ × ℕ)) (ts : List TableText) (name : List ℕ) (version : ℕ) → SetupFits (text n ws ts [])
     → is_name name ≡ true → IsVersion version → Next (open_rows (text n ws ts [])) (head_row name version)
 next_head n ws ts name version fits f known =
     let t = table_text name version [] in (

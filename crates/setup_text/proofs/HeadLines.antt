@@ -127,7 +127,7 @@ module _ {T : Type 0} (g : Grammar T SetupKind) (lines : T → List Words)
     closed : IsClosing (text_end ∷ [])
     closed = inr refl
 
-    -- what is free of side conditions
+    -- words that are free of side conditions
     free_none : FreeFront J done []
     free_none [] w q e k j = cc
     free_none (x ∷ p) w q e k j = cc
@@ -205,7 +205,7 @@ module _ {T : Type 0} (g : Grammar T SetupKind) (lines : T → List Words)
         unfit_fault g lines (text_end ∷ []) closed spelled J judged breaks done front at k none
         (unfit (lines_items done ++ map word front) (item_at at) k h)
 
-    -- the name is missing, or no name
+    -- the name is missing, or is not a name
     no_name :
         (n : ℕ) (l : Words) (rest : List Place) (k : SetupKind) → length tables < 16 → name_at l ≡ Err k
         → FaultBehind g done (line_places n (codes "table" ∷ l) rest) n k

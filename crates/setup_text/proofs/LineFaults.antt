@@ -351,17 +351,19 @@ arbiter_is_free s k (inr (inr (inr ((events.Read, h), e, x)))) = differ h refl
 arbiter_is_free s k (inr (inr (inr ((events.Write, h), e, x)))) = differ h refl
 arbiter_is_free s k (inr (inr (inr ((events.Pass, h), e, x)))) = differ h refl
 arbiter_is_free s k (inr (inr (inr ((events.Flush, h), e, x)))) = differ h refl
+arbiter_is_free s k (inr (inr (inr ((events.Swap, h), e, x)))) = differ h refl
 
 pub only_arbiter :
     (s : SetupText) (t : Words) (others : List Words) → Follows s (codes "arbiter" ∷ t) others → t ≡ codes "fair" ∷ []
 only_arbiter s t others (arbiter h bare) = cc
 only_arbiter s t others (word_follows w f h a b) = absurd (no_row (codes "arbiter") h refl refl)
-only_arbiter s t others (head name f h b) = absurd (no_row (codes "arbiter") h refl refl)
+only_arbiter s t others (head name v f known h b) = absurd (no_row (codes "arbiter") h refl refl)
 only_arbiter s t others (next (board b f h)) = absurd (no_row (codes "arbiter") h refl refl)
 only_arbiter s t others (next (access (accesses.Read x) f h some)) = absurd (no_row (codes "arbiter") h refl refl)
 only_arbiter s t others (next (access (accesses.Write x y) f h some)) = absurd (no_row (codes "arbiter") h refl refl)
 only_arbiter s t others (next (access (accesses.Pass x) f h some)) = absurd (no_row (codes "arbiter") h refl refl)
 only_arbiter s t others (next (access (accesses.Flush x) f h some)) = absurd (no_row (codes "arbiter") h refl refl)
+only_arbiter s t others (next (access (accesses.Swap x y) f h some)) = absurd (no_row (codes "arbiter") h refl refl)
 only_arbiter s t others (next (ends h none)) = absurd (no_row (codes "arbiter") h refl refl)
 
 pub only_word :
@@ -382,6 +384,7 @@ pub only_head :
     (s : SetupText) (t : Words) (others : List Words) → Follows s (codes "table" ∷ t) others
     → (name : List ℕ) × (version : ℕ) × (is_name name ≡ true) × IsVersion version × (t ≡ name ∷ version_words version)
     × (s.boards ≡ [])
+only_head s t others (arbiter h bare) = absurd (no_row (codes "table") h refl refl)
 only_head s t others (word_follows w f h a b) = absurd (no_row (codes "table") h refl refl)
 only_head s t others (head name v f known h b) = (name, v, f, known, cc, b)
 only_head s t others (next (board b f h)) = absurd (no_row (codes "table") h refl refl)
@@ -472,6 +475,7 @@ event_no_arbiter events.Read h = differ h refl
 event_no_arbiter events.Write h = differ h refl
 event_no_arbiter events.Pass h = differ h refl
 event_no_arbiter events.Flush h = differ h refl
+event_no_arbiter events.Swap h = differ h refl
 
 pub only_access :
     (s : SetupText) (event : LocalEvent) (t : Words) (others : List Words)

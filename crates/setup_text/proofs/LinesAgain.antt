@@ -21,6 +21,7 @@ use Rattle.table_check.specs.declared.boards.Shape.TheVariants.{Plain, Cached}
 use Rattle.table_check.specs.declared.boards.Choose.{Choose}
 use Rattle.table_check.specs.declared.boards.Choose.TheVariants.{First, Round, Seed}
 use Rattle.setup.specs.Setup.{Setup, access_count}
+use Rattle.table_text.specs.Spelling.{IsVersion}
 use Rattle.setup_text.specs.Spelling.{BoardText, memory_row, arbiter_row, word_row, head_row, shape_words, choose_words, board_row, access_row, end_row, AccessFits, WordFits, ChooseFits, BoardFits}
 use Rattle.setup_text.specs.Values.{place_of, board_of}
 use Rattle.setup_text.specs.Drafts.{empty_setup, with_fair, with_word, with_board, with_access, named, found_name}

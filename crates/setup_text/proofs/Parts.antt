@@ -11,9 +11,9 @@ use Rattle.class_relation.specs.Tables.{Table, empty_table}
 use Rattle.table_check.specs.declared.boards.BoardSpec.{BoardSpec}
 use Rattle.setup.specs.Setup.{Setup, WellFormed, line_count, access_count}
 use Rattle.setup.specs.Setup as checked
-use Rattle.table_text.specs.Spelling.{CellLine, entered, all_entered, table_of}
+use Rattle.table_text.specs.Spelling.{CellLine, entered, all_entered}
 use Rattle.setup_text.specs.Spelling.{TableText, BoardText, SetupText, memory_row, arbiter_rows, word_row, board_row, access_row, table_rows, board_rows, tables_rows, open_rows, AccessFits, WordFits, TableFits, BoardFits}
-use Rattle.setup_text.specs.Values.{words_set, memory_of, tables_of, board_of, setup_of}
+use Rattle.setup_text.specs.Values.{spelled_table, words_set, memory_of, tables_of, board_of, setup_of}
 use Rattle.setup_text.specs.Standing.{CellsStand, InPlaces, StandsSoFar, SetupStands}
 use Rattle.setup_text.specs.Drafts.{named, found_name, with_board, with_access, IsDraft, AreTables}
 use Rattle.setup_text.specs.Reading.{has_number}

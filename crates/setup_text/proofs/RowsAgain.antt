@@ -28,7 +28,7 @@ use Rattle.table_text.proofs.TableLaws.{HasAllCells, empty_whole, entered_whole}
 use Rattle.table_text.proofs.Again.{line_again, end_again}
 use Rattle.setup_text.specs.declared.fault.SetupKind.{SetupKind}
 use Rattle.setup_text.specs.Spelling.{TableText, BoardText, SetupText, end_row, memory_row, arbiter_row, arbiter_rows, word_row, head_row, board_row, access_row, table_rows, tables_rows, board_rows, setup_rows, WordFits, AccessFits, TableFits, BoardFits}
-use Rattle.setup_text.specs.Values.{words_set, tables_of, place_of, board_of, setup_of}
+use Rattle.setup_text.specs.Values.{spelled_table, words_set, tables_of, place_of, board_of, setup_of}
 use Rattle.setup_text.specs.Correct.{CellsStand, InPlaces, SetupStands}
 use Rattle.setup_text.specs.Drafts.{empty_setup, with_fair, with_word, with_table, with_board, with_access, access_added, named, found_name, stays_invalid}
 use Rattle.setup_text.specs.Reading.{Mode, start, headed, body, in_table, ended, line_at, has_number}

@@ -32,7 +32,7 @@ use Rattle.table_text.proofs.TableLaws.{HasAllCells, entered_whole, empty_whole}
 use Rattle.table_text.proofs.Again.{line_again, end_again}
 use Rattle.setup_text.specs.declared.fault.SetupKind.{SetupKind}
 use Rattle.setup_text.specs.Spelling.{TableText, BoardText, SetupText, end_row, memory_row, arbiter_row, word_row, head_row, board_row, access_row, shape_words, choose_words, open_table_rows, table_rows, board_rows, tables_rows, open_rows, setup_rows, WordFits, TableFits}
-use Rattle.setup_text.specs.Values.{memory_of, tables_of, place_of, board_of, setup_of}
+use Rattle.setup_text.specs.Values.{spelled_table, memory_of, tables_of, place_of, board_of, setup_of}
 use Rattle.setup_text.specs.Standing.{CellsStand, StandsSoFar}
 use Rattle.setup_text.specs.Drafts.{named, found_name, stays_invalid, with_table, with_board, AreTables, IsShape}
 use Rattle.setup_text.specs.Reading.{Mode, start, headed, body, in_table, ended, on_line, has_number, first_line, arbiter_line, second_line, body_line, line_at, lines_at, text_ends, board_line, access_read}
@@ -158,7 +158,7 @@ word_again n ws w fits low =
     (sym (set_push _ ws w)))
 
 head_again :
-    (n : ℕ) (ws : List (ℕ × ℕ)) (ts : List TableText) (t : TableText) → TableStands (tables_of ts) t
+    (n : Opener) (ws : List (ℕ × ℕ)) (ts : List TableText) (t : TableText) → TableStands (tables_of ts) t
     → line_at (body (setup_of (text n ws ts []))) (head_row t.name t.version)
     ≡ Ok (in_table (setup_of (text n ws ts [])) (empty_table t.name t.version))
 unfolding body_line

@@ -380,7 +380,7 @@ line_faults (top m) n l rest k good e = second_stops rest n m l k good e
 line_faults (so_far s) n l rest k good e =
     body_stops rest n (s.lines, s.fair) s.words s.tables s.boards l k
     (λ bare. absurd (both_ways (is_bare s) good.past bare)) good.stands e
-line_faults (opened s t) n l rest k good e = go (table_line (table_of t.name t.cells) l) refl e
+line_faults (opened s t) n l rest k good e = go (table_line (spelled_table t) l) refl e
   where
     go :
         (x : Result (Bool × Table) TableKind) → table_line (spelled_table t) l ≡ x
@@ -407,7 +407,7 @@ line_free begin l m good e = first_free l m e
 line_free (top n) l m good e = second_passes [] 0 n l m good e
 line_free (so_far s) l m good e =
     body_passes [] 0 (s.lines, s.fair) s.words s.tables s.boards l m good.stands e
-line_free (opened s t) l m good e = go (table_line (table_of t.name t.cells) l) refl e
+line_free (opened s t) l m good e = go (table_line (spelled_table t) l) refl e
   where
     go :
         (x : Result (Bool × Table) TableKind) → table_line (spelled_table t) l ≡ x

@@ -23,7 +23,7 @@ use Rattle.setup_text.specs.declared.fault.LimitOf.TheVariants.{Boards, Accesses
 use Rattle.setup_text.specs.declared.fault.SetupKind.{SetupKind}
 use Rattle.setup_text.specs.declared.fault.SetupKind.TheVariants.{UnknownWord, Limit}
 use Rattle.setup_text.specs.Spelling.{TableText, BoardText, SetupText, end_row, memory_row, arbiter_row, word_row, head_row, board_row, access_row, shape_words, open_table_rows, table_rows, open_rows, setup_rows}
-use Rattle.setup_text.specs.Values.{memory_of, tables_of, place_of, board_of, setup_of}
+use Rattle.setup_text.specs.Values.{spelled_table, memory_of, tables_of, place_of, board_of, setup_of}
 use Rattle.setup_text.specs.Standing.{StandsSoFar}
 use Rattle.setup_text.specs.Drafts.{named, further, found_name, stays_invalid, with_word, with_table, with_board, with_access, with_fair, empty_setup}
 use Rattle.setup_text.specs.Reading.{Mode, start, headed, body, in_table, ended, value_line, word_line, head_line, table_head, board_front, board_table, shape_at, board_back, board_spec, board_line, board_added, access_line, access_read, end_line, line_ends, maybe_access, body_line, this_word, memory_line, first_line, arbiter_line, second_line, as_setup_kind, after_table_line, line_at}
@@ -31,7 +31,7 @@ use Rattle.setup_text.proofs.LineWords.{binds, ok_same, is_word, word_read, noth
 use Rattle.setup_text.proofs.Naming.{found_known}
 use Rattle.setup_text.proofs.Growing.{each_push}
 use Rattle.setup_text.proofs.Drafts.{board_fits}
-use Rattle.setup_text.proofs.Parts.{Opener, text, is_bare, past_words, past_tables, past_boards, table_text, and_access, rows_word, rows_table, rows_board, rows_access, set_push, memory_long, lines_of_draft, stands_memory, stands_word, TableStands, tables_append, stands_table, spec_of, setup_board, stands_board, setup_access, stands_access}
+use Rattle.setup_text.proofs.Parts.{Opener, text, is_bare, past_words, past_tables, past_boards, table_text, table_version, and_access, rows_word, rows_table, rows_board, rows_access, set_push, memory_long, lines_of_draft, stands_memory, stands_word, TableStands, tables_append, stands_table, spec_of, setup_board, stands_board, setup_access, stands_access}
 
 -- ---- where reading stands, with the text so far
 
@@ -458,7 +458,7 @@ rows_cell before name version cells c =
     ∙ sym (append_assoc before (open_table_rows (table_text name version cells)) (cell_words c ∷ []))
 
 setup_table :
-    (n : ℕ) (ws : List (ℕ × ℕ)) (ts : List TableText) (t : TableText)
+    (n : Opener) (ws : List (ℕ × ℕ)) (ts : List TableText) (t : TableText)
     → setup_of (text n ws (ts ++ t ∷ []) []) ≡ with_table (setup_of (text n ws ts [])) (spelled_table t)
 setup_table n ws ts t =
     ap (λ (x : List Table). record { memory = memory_of n.0 ws; fair = n.1; tables = x; boards = []; scripts = [] })
@@ -558,5 +558,5 @@ line_takes (opened s t) l m good e =
     let P : SetupText → Type 0 =
     λ x.
     OpenStands x t → line_at (in_table (setup_of x) (spelled_table t)) l ≡ Ok m → Grows (opened x t) l m in
-    (subst P none (λ h k. table_takes s.lines s.words s.tables t l m h k)) good e
+    (subst P none (λ h k. table_takes (s.lines, s.fair) s.words s.tables t l m h k)) good e
 line_takes (closed s) l m good e = absurd cc

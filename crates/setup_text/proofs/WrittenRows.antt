@@ -16,7 +16,7 @@ use Rattle.table_check.specs.declared.boards.Shape.{Shape}
 use Rattle.table_check.specs.declared.boards.Shape.TheVariants.{Plain, Cached}
 use Rattle.table_check.specs.declared.boards.Choose.{Choose}
 use Rattle.table_check.specs.declared.boards.Choose.TheVariants.{First, Round, Seed}
-use Rattle.table_text.proofs.Plain.{rows_plain, name_plain}
+use Rattle.table_text.proofs.Plain.{rows_plain, name_plain, version_plain}
 use Rattle.setup_text.specs.Spelling.{TableText, BoardText, SetupText, end_row, arbiter_rows, word_row, shape_words, choose_words, board_row, access_row, board_rows, tables_rows, setup_rows, ShapeFits, ChooseFits, AccessFits, WordFits, TableFits, BoardFits, SetupFits}
 use Rattle.setup_text.proofs.Writes.{all_append}
 

@@ -13,7 +13,7 @@ use Rattle.table_text.specs.Spelling.{CellLine, cell_words, version_words, IsVer
 
 -- ---- what is written
 
--- A table: its name, its version, and its cell lines in the order in which they stand.
+-- A table: its name, its version, and its cell lines in their order.
 pub record TableText : Type 0 where
   pub name : List ℕ
   pub version : ℕ

@@ -40,12 +40,12 @@ fn setups_are_written(rt: HostRuntime) -> Result<(), Fail> {
              board 2 number 4 table un plain choose first\nend\n",
         ),
         (
-            "memory 1\ntable un version 2\nI usw = I\nI swap = I usw\nend\nboard 1 number 5 table un plain choose first\nswap 3 1\nend\n",
-            "memory 1\ntable un version 2\nI swap = I usw\nI usw = I\nend\nboard 1 number 5 table un plain choose first\nswap 3 1\nend\n",
+            "memory 1\ntable un version 2\nI usw = I\nI swap = I usw\nend\n\
+             board 1 number 5 table un plain choose first\nswap 3 1\nend\n",
+            "memory 1\ntable un version 2\nI swap = I usw\nI usw = I\nend\n\
+             board 1 number 5 table un plain choose first\nswap 3 1\nend\n",
         ),
         (
-            "memory 2\nword 6 0\nword 5 1\nword 0 4294967295\nword 5 7\nword 1 2\nword 1 0\ntable b\nend\ntable a\nS read = S\nend\nboard 1 number 255 table a cached 1 256 choose round\nwrite 7 4294967295\npass 4\nboard 2 number 1 table b plain choose first\nboard 3 number 17 table a cached 16 4 choose seed 18446744073709551615\nflush 0\nread 1\nend",
-            "memory 2\nword 0 4294967295\nword 5 7\ntable b\nend\ntable a\nS read = S\nend\nboard 1 number 255 table a cached 1 256 choose round\nwrite 7 4294967295\npass 4\nboard 2 number 1 table b plain choose first\nboard 3 number 17 table a cached 16 4 choose seed 18446744073709551615\nflush 0\nread 1\nend\n",
             "memory 2\narbiter fair # in turn\nword 6 0\nword 5 1\nword 0 4294967295\nword 5 7\n\
              word 1 2\nword 1 0\ntable b\nend\ntable a\nS read = S\nend\n\
              board 1 number 1023 table a cached 1 256 choose round\nwrite 7 4294967295\npass 4\n\

@@ -12,9 +12,10 @@ ghost use Rattle.class_relation.specs.Actions.{by_bus};
 ghost use Rattle.class_relation.specs.Tables.{locals_of, answers_of};
 
 /// The tables of well-known protocols and that of the whole class are accepted. A copy-back table
-/// is not where a shared copy hides from a read, where it answers what never comes, and where it
-/// has no cells for a state that it reaches. A table of version 2 needs a cell for swaps, and a word
-/// that it swaps without a copy goes both ways. In version 1 swaps follow from writes.
+/// is refused where a shared copy hides from a read, where it answers an event that never comes,
+/// and where it has no cells for a state that it reaches. A table of version 2 needs a cell for
+/// swaps, and a word that it swaps without a copy goes both ways. In version 1 swaps follow from
+/// writes.
 pub fn known_tables_are_judged()
     ensures uncached { InClass uncached }
     ensures copy_back { InClass copy_back }

@@ -577,7 +577,7 @@ module _ (u : Unread) where
       no_bars (inl one) = rw one refl
       no_bars (inr two) = rw two refl
 
--- What reading a table refuses stands at the first place at fault, and has its kind.
+-- A refusal in reading a table is at the first place at fault, and has its kind.
 pub table_stops :
     (name : List ℕ) (u : Unread) (f : Fault) → table_at name u ≡ Err f
     → FirstFault table_grammar (places u) f.line f.kind

@@ -354,7 +354,7 @@ fn version(scan: &mut Scan) -> Result<u8, TableFault>
     Ok(2)
 }
 
-/// Reads one line of a table. Answers whether it was the `end` line.
+/// Reads one line of a table. Returns whether it was the `end` line.
 #[tactic(auto, unfolding(crate::specs::Reading::table_line, crate::specs::Reading::cell_line))]
 fn line(scan: &mut Scan, table: &mut Table) -> Result<bool, TableFault>
     ensures value { Gives (λ ended. (ended, table.new)) result scan.old.line
@@ -373,8 +373,8 @@ fn line(scan: &mut Scan, table: &mut Table) -> Result<bool, TableFault>
     Ok(false)
 }
 
-/// Reads the rest of a table of this name, from just after its name to the end of its `end` line. The
-/// head line may go on with `version 2`, and is of version 1 otherwise.
+/// Reads the rest of a table of this name, from just after its name to the end of its `end` line.
+/// The head line may go on with `version 2`; otherwise the table is of version 1.
 #[tactic(auto, using(crate::proofs::Read::is_spelled, crate::proofs::Read::is_read, crate::proofs::Read::is_first, crate::proofs::Bytes::is_read_again))]
 pub fn read_table(alloc: Global, scan: &mut Scan, name: Name) -> Result<Table, TableFault>
     // The text, up to where the scan is, spells the table that was read.
