@@ -1,5 +1,5 @@
--- The two versions of tables. A table of version 2 says what it does on swaps. In a table of version
--- 1 that follows from its writes.
+-- The two versions of tables. A table of version 2 says what it does on swaps. In a table of
+-- version 1 that follows from its writes.
 use Rattle.std.specs.Prelude.{ℕ, Bool, true, false, not, ◌&&◌, ◌==◌, if◌then◌else◌, List, map, filter, Option, Some, None}
 use Rattle.bus_signals.specs.declared.BusEvent.{BusEvent}
 use Rattle.bus_signals.specs.declared.BusEvent.TheVariants.{Usw}

@@ -2,16 +2,16 @@
 
 use super::*;
 use bus_signals::{Access, Addr, BUS_EVENTS, BoardNo, BusEvent, LOCAL_EVENTS, LineNo, LocalEvent};
-use class_relation::{LocalAction, Name, Table};
+use class_relation::{LocalAction, Name, SnoopAction, Table};
 use fb_text::Text;
 use journal::{Answers, Carried, Connected, Done, Event, Places, Source, States, Takers};
 use moesi_state::{Outcome, STATES, State};
 use std::alloc::Global;
 use std::test::*;
 
-/// Whether two tables have the same name and cells.
+/// Whether two tables have the same name, version and cells.
 fn same(a: &Table, b: &Table) -> bool {
-    if a.name().bytes() != b.name().bytes() {
+    if a.name().bytes() != b.name().bytes() || a.version() != b.version() {
         return false;
     }
     for state in STATES {
@@ -32,6 +32,38 @@ fn same(a: &Table, b: &Table) -> bool {
 /// An alternative for a local cell.
 type Change = (State, LocalEvent, LocalAction);
 
+/// Appends an alternative to a local cell, where the table's version has both.
+fn push_local(
+    table: &mut Table,
+    state: State,
+    event: LocalEvent,
+    action: LocalAction,
+) -> Result<(), Fail> {
+    if !table.says_local(event) || !table.says_bus(action.bus) {
+        return Err("a swap".into());
+    }
+    match table.push_local(state, event, action) {
+        Ok(()) => Ok(()),
+        Err(_) => Err("memory".into()),
+    }
+}
+
+/// Appends an answer to an answer cell, where the table's version has it.
+fn push_answer(
+    table: &mut Table,
+    state: State,
+    event: BusEvent,
+    answer: SnoopAction,
+) -> Result<(), Fail> {
+    if !table.says_answer(event) {
+        return Err("a swap".into());
+    }
+    match table.push_snoop(state, event, answer) {
+        Ok(()) => Ok(()),
+        Err(_) => Err("memory".into()),
+    }
+}
+
 /// The cells of a table in some of its states, and these alternatives.
 fn in_states(
     alloc: Global,
@@ -39,28 +71,22 @@ fn in_states(
     states: &[State],
     changes: &[Change],
 ) -> Result<Table, Fail> {
-    let mut part = Table::empty(alloc, table.name());
+    let mut part = Table::empty(alloc, table.name(), table.version());
     for (state, event, action) in changes {
-        if part.push_local(*state, *event, *action).is_err() {
-            return Err("memory".into());
-        }
+        push_local(&mut part, *state, *event, *action)?;
     }
     for state in states {
         for event in LOCAL_EVENTS {
-            if !part.local(*state, event).is_empty() {
+            if !part.said_local(*state, event).is_empty() {
                 continue;
             }
-            for action in table.local(*state, event) {
-                if part.push_local(*state, event, *action).is_err() {
-                    return Err("memory".into());
-                }
+            for action in table.said_local(*state, event) {
+                push_local(&mut part, *state, event, *action)?;
             }
         }
         for event in BUS_EVENTS {
-            for answer in table.snoop(*state, event) {
-                if part.push_snoop(*state, event, *answer).is_err() {
-                    return Err("memory".into());
-                }
+            for answer in table.said_snoop(*state, event) {
+                push_answer(&mut part, *state, event, *answer)?;
             }
         }
     }
@@ -119,12 +145,7 @@ fn what_leads_out_goes(rt: HostRuntime) -> Result<(), Fail> {
         },
         bus: Some(BusEvent::Rd),
     };
-    if wide
-        .push_local(State::I, LocalEvent::Read, to_exclusive)
-        .is_err()
-    {
-        return Err("memory".into());
-    }
+    push_local(&mut wide, State::I, LocalEvent::Read, to_exclusive)?;
     let Ok(Some(narrowed)) = narrow(rt.alloc(), &wide) else {
         return Err("none".into());
     };
@@ -191,6 +212,42 @@ fn states_may_go_one_by_one(rt: HostRuntime) -> Result<(), Fail> {
     ];
     let table = in_states(rt.alloc(), cached.table(), &states, &changes)?;
     assert!(rt; matches!(narrow(rt.alloc(), &table), Ok(None)));
+    Ok(())
+}
+
+/// The table of an uncached board in version 2.
+fn newer_uncached(alloc: Global) -> Result<Table, Fail> {
+    let Some(name) = Name::of(b"un") else {
+        return Err("name".into());
+    };
+    let Ok(older) = library(alloc, Kind::Uncached) else {
+        return Err("memory".into());
+    };
+    let mut table = Table::empty(alloc, name, 2);
+    for event in LOCAL_EVENTS {
+        for action in older.table().said_local(State::I, event) {
+            push_local(&mut table, State::I, event, *action)?;
+        }
+    }
+    Ok(table)
+}
+
+/// A table of version 2 has to say what it does on a swap, by an alternative of the class.
+#[test]
+fn swaps_are_narrowed(rt: HostRuntime) -> Result<(), Fail> {
+    let mut table = newer_uncached(rt.alloc())?;
+    assert!(rt; matches!(narrow(rt.alloc(), &table), Ok(None)));
+    let one_way = by(State::I, BusEvent::Uwr);
+    push_local(&mut table, State::I, LocalEvent::Swap, one_way)?;
+    assert!(rt; matches!(narrow(rt.alloc(), &table), Ok(None)));
+    let both_ways = by(State::I, BusEvent::Usw);
+    push_local(&mut table, State::I, LocalEvent::Swap, both_ways)?;
+    let Ok(Some(narrowed)) = narrow(rt.alloc(), &table) else {
+        return Err("none".into());
+    };
+    let kept = narrowed.table();
+    assert_eq!(rt; kept.version(), 2);
+    assert_eq!(rt; kept.local(State::I, LocalEvent::Swap), [both_ways].as_slice());
     Ok(())
 }
 

@@ -7,8 +7,8 @@ use Rattle.table_text.specs.declared.fault.TableFault.{TableFault}
 use Rattle.table_text.specs.declared.fault.TableFault.TheVariants as faults
 use Rattle.table_text.specs.Spelling.{CellLine, local, answer, IsSaid, IsVersion, body, table_items, table_of, entered, table_grammar}
 
--- a cell line that can stand after others: it is one of the table's version, its cell was not given,
--- and it has one to sixteen alternatives
+-- a cell line that can stand after others: it is one of the table's version, its cell was not
+-- given, and it has one to sixteen alternatives
 abbrev pub CanStand : Table → CellLine → Type 0
 CanStand t (local s e alts) =
     (said_locals t s e ≡ []) × (0 < length alts) × (length alts ≤ 16)

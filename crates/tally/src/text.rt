@@ -12,8 +12,8 @@ use class_words::bus_event_text;
 use fb_text::Text;
 use journal::Event;
 
-/// How many bus events have a line: all but the last, which only swaps use. A generated setup has no
-/// swaps.
+/// How many bus events have a line: all but the last, which only swaps use. A generated setup has
+/// no swaps.
 const TALLIED: usize = EVENT_COUNT - 1;
 
 /// The number of accesses of a generated setup.
