@@ -29,7 +29,7 @@ owned_swap_plays =
           record {
             idle = refl;
             by_raised = refl;
-            wins = record { raised = refl; number_highest = refl; lines_settled = refl; rounds_settled = refl };
+            wins = record { competes = refl; number_highest = refl; lines_settled = refl; rounds_settled = refl };
           },
           (
             (
@@ -66,7 +66,7 @@ owned_swap_plays =
                     idle = refl;
                     by_raised = refl;
                     wins =
-                        record { raised = refl; number_highest = refl; lines_settled = refl; rounds_settled = refl };
+                        record { competes = refl; number_highest = refl; lines_settled = refl; rounds_settled = refl };
                   },
                   (
                     (
@@ -120,7 +120,7 @@ lock_plays =
           record {
             idle = refl;
             by_raised = refl;
-            wins = record { raised = refl; number_highest = refl; lines_settled = refl; rounds_settled = refl };
+            wins = record { competes = refl; number_highest = refl; lines_settled = refl; rounds_settled = refl };
           },
           (
             (
@@ -157,7 +157,7 @@ lock_plays =
                     idle = refl;
                     by_raised = refl;
                     wins =
-                        record { raised = refl; number_highest = refl; lines_settled = refl; rounds_settled = refl };
+                        record { competes = refl; number_highest = refl; lines_settled = refl; rounds_settled = refl };
                   },
                   (
                     (

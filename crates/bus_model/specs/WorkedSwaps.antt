@@ -7,7 +7,7 @@ use Rattle.class_relation.specs.Actions.{answer}
 use Rattle.table_check.specs.KnownTables.{uncached, copy_back}
 use Rattle.bus_model.specs.Setup.{Setup}
 use Rattle.bus_model.specs.Events.{Event, Raise, Grant, Connect, Memory, Board}
-use Rattle.bus_model.specs.Configuration.{Configuration, Idle, opening}
+use Rattle.bus_model.specs.Configuration.{Configuration, ByNumber, Idle, opening}
 use Rattle.bus_model.specs.Carrying.{no_takers}
 use Rattle.bus_model.specs.Runs.{after_all}
 use Rattle.bus_model.specs.WorkedWords.{read, write, swap, cached_board, plain_board, connection, says, data_of, taken_by, did, copy, progress}
@@ -18,6 +18,7 @@ use Rattle.bus_model.specs.WorkedRuns.{gap, gap_events}
 abbrev pub owned_swap : Setup
 owned_swap = record {
   memory = 0 ∷ 0 ∷ 0 ∷ 0 ∷ [];
+  fair = false;
   tables = copy_back ∷ uncached ∷ [];
   boards = cached_board 10 0 1 ∷ plain_board 9 1 ∷ [];
   scripts = (write 0 5 ∷ []) ∷ (swap 0 8 ∷ []) ∷ [];
@@ -46,6 +47,7 @@ owned_swap_end = record {
   rows = copy 1 0 M (8 ∷ 0 ∷ 0 ∷ 0 ∷ []) 0 ∷ [];
   boards = progress 1 1 2 ∷ progress 1 0 1 ∷ [];
   phase = Idle;
+  arbitration = ByNumber;
 }
 
 -- Two boards each swap 1 into the same word: the first gets 0, and the second gets the 1 of the
@@ -53,6 +55,7 @@ owned_swap_end = record {
 abbrev pub lock : Setup
 lock = record {
   memory = 0 ∷ 0 ∷ 0 ∷ 0 ∷ [];
+  fair = false;
   tables = copy_back ∷ [];
   boards = cached_board 10 0 1 ∷ cached_board 9 0 1 ∷ [];
   scripts = (swap 0 1 ∷ []) ∷ (swap 0 1 ∷ []) ∷ [];
@@ -76,6 +79,7 @@ lock_end = record {
   rows = copy 2 0 M (1 ∷ 0 ∷ 0 ∷ 0 ∷ []) 0 ∷ [];
   boards = progress 1 1 2 ∷ progress 1 1 1 ∷ [];
   phase = Idle;
+  arbitration = ByNumber;
 }
 
 -- The configuration in which the uncached board's swap is connected.
@@ -86,6 +90,7 @@ swapping = after_all (opening owned_swap) (take 7 owned_swap_events)
 abbrev pub held_swap : Setup
 held_swap = record {
   memory = gap.memory;
+  fair = gap.fair;
   tables = gap.tables;
   boards = gap.boards;
   scripts = (read 0 ∷ swap 0 9 ∷ []) ∷ (read 0 ∷ []) ∷ [];

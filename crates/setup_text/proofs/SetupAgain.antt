@@ -414,6 +414,7 @@ no_arbiter_access (accesses.Read x) = refl
 no_arbiter_access (accesses.Write x y) = refl
 no_arbiter_access (accesses.Pass x) = refl
 no_arbiter_access (accesses.Flush x) = refl
+no_arbiter_access (accesses.Swap x y) = refl
 
 abbrev lines_count : List BoardText → ℕ
 lines_count [] = 0
