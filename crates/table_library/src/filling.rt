@@ -87,14 +87,15 @@ fn add_local_cell<C: Cells>(
     event: LocalEvent,
 ) -> Result<(), NoMemory>
     requires { table.old.version ≡ C.version cells.now }
-    ensures { OnOk result (table.new
+    ensures cell { OnOk result (table.new
         ≡ with_said_locals table.old state event (C.locals cells.now state event)) }
+    ensures version { OnOk result (table.new.version ≡ C.version cells.now) }
 {
-    if table.says_local(event) {
-        cells.add_local(table, state, event)
-    } else {
-        Ok(())
+    if !table.says_local(event) {
+        return Ok(());
     }
+    cells.add_local(table, state, event)?;
+    Ok(())
 }
 
 /// Fills the cell of a state and a bus event, if a table of this version says it itself.
@@ -105,20 +106,22 @@ fn add_answer_cell<C: Cells>(
     event: BusEvent,
 ) -> Result<(), NoMemory>
     requires { table.old.version ≡ C.version cells.now }
-    ensures { OnOk result (table.new
+    ensures cell { OnOk result (table.new
         ≡ with_said_answers table.old state event (C.answers cells.now state event)) }
+    ensures version { OnOk result (table.new.version ≡ C.version cells.now) }
 {
-    if table.says_answer(event) {
-        cells.add_answer(table, state, event)
-    } else {
-        Ok(())
+    if !table.says_answer(event) {
+        return Ok(());
     }
+    cells.add_answer(table, state, event)?;
+    Ok(())
 }
 
 fn add_locals<C: Cells>(cells: &C, table: &mut Table, state: State) -> Result<(), NoMemory>
     requires { table.old.version ≡ C.version cells.now }
-    ensures { OnOk result (table.new
+    ensures cells { OnOk result (table.new
         ≡ filled_locals (C.locals cells.now) state table.old local_events) }
+    ensures version { OnOk result (table.new.version ≡ C.version cells.now) }
 {
     for event in LOCAL_EVENTS {
         add_local_cell(cells, table, state, event)?;
@@ -128,8 +131,9 @@ fn add_locals<C: Cells>(cells: &C, table: &mut Table, state: State) -> Result<()
 
 fn add_answers<C: Cells>(cells: &C, table: &mut Table, state: State) -> Result<(), NoMemory>
     requires { table.old.version ≡ C.version cells.now }
-    ensures { OnOk result (table.new
+    ensures cells { OnOk result (table.new
         ≡ filled_answers (C.answers cells.now) state table.old bus_events) }
+    ensures version { OnOk result (table.new.version ≡ C.version cells.now) }
 {
     for event in BUS_EVENTS {
         add_answer_cell(cells, table, state, event)?;
