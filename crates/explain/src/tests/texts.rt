@@ -50,7 +50,7 @@ fn setups_are_explained(rt: HostRuntime) -> Result<(), Fail> {
             "memory 1\n\
             Read 0\n",
             "2 | Read 0\n  | ^^^^\n\
-            Read cannot stand here. Expected a line of a setup: word, table, board, read, write, pass, flush or end.\n\
+            Read cannot stand here. Expected a line of a setup: word, table, board, read, write, pass, flush, swap or end.\n\
             Is read meant?\n",
         ),
         (
