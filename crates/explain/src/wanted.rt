@@ -81,8 +81,20 @@ fn one_word(text: &'static str) -> &'static [&'static str] {
     }
 }
 
+/// Whether a word that cannot stand at a place could in a table of version 2.
+pub fn is_of_version_2(wanted: Wanted, word: &[u8]) -> bool {
+    match wanted {
+        Wanted::Event { version: 1 } => matches!(word, b"swap" | b"usw"),
+        Wanted::BusEventOrBar { version: 1 } => matches!(word, b"usw"),
+        _ => false,
+    }
+}
+
 /// What a word that cannot stand at a place hints at.
 pub fn hint(wanted: Wanted, word: &[u8]) -> &'static str {
+    if is_of_version_2(wanted, word) {
+        return "A table that says what it does on swaps begins with table NAME version 2.\n";
+    }
     match word {
         [b'/', b'/', ..] | [b';', ..] => "A comment begins with #.\n",
         [b'C', b'H', b':'] => "CH:S/E is one word, without blanks.\n",

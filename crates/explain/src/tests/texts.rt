@@ -184,6 +184,26 @@ fn tables_are_explained(rt: HostRuntime) -> Result<(), Fail> {
             Is inv meant?\n",
         ),
         (
+            "table x version 3\n",
+            "1 | table x version 3\n  |                 ^\n\
+            3 is out of range.\n\
+            Expected the version of the table, which is 2: version 1 is not written.\n",
+        ),
+        (
+            "table x\n\
+            I swap = I usw\n",
+            "2 | I swap = I usw\n  |   ^^^^\n\
+            swap cannot stand here. Expected an access or a bus event: read, write, pass, flush, rd, rfo, inv, urd, bwr, uwr, ubw, pas or flu.\n\
+            A table that says what it does on swaps begins with table NAME version 2.\n",
+        ),
+        (
+            "table x version 2\n\
+            I swap = I usv\n",
+            "2 | I swap = I usv\n  |            ^^^\n\
+            usv cannot stand here. Expected a bus event, | with another alternative, or the end of the line: rd, rfo, inv, urd, bwr, uwr, ubw, pas, flu or usw.\n\
+            Is usw meant?\n",
+        ),
+        (
             "table x\n\
             S ubw = S SL CH\n",
             "2 | S ubw = S SL CH\n  |              ^^\n\
