@@ -3,6 +3,7 @@
 -- schedule's turns, and the configuration to which they lead.
 use Rattle.std.specs.Prelude.{ℕ, true, false, List, [], ◌∷◌, Some, None, slice_set, codes}
 use Rattle.bus_signals.specs.declared.BusEvent.TheVariants.{Rd, Rfo, Inv, Bwr, Ubw, Pas}
+use Rattle.bus_signals.specs.declared.LocalEvent.{LocalEvent}
 use Rattle.moesi_state.specs.declared.State.TheVariants.{M, O, E, S, I}
 use Rattle.moesi_state.specs.declared.Outcome.TheVariants.{Fixed, OnHit}
 use Rattle.class_relation.specs.Actions.{answer, by_bus}
