@@ -1,63 +1,59 @@
 -- The exhibits: small setups of two boards. One cell of the first board's table is not as it ought
 -- to be, and it does harm.
-use Rattle.std.specs.Prelude.{ℕ, ◌-◌, ◌==◌, ◌&&◌, true, false, List, [], ◌∷◌, ◌++◌, map, flat_map, filter, replicate, slice_index_or, slice_set, if◌then◌else◌, codes}
+use Rattle.std.specs.Prelude.{ℕ, ◌-◌, ◌==◌, ◌&&◌, true, false, List, [], ◌∷◌, ◌++◌, Option, Some, None, map, flat_map, filter, replicate, slice_index_or, slice_set, if◌then◌else◌, codes}
 use Rattle.bus_signals.specs.declared.Access.{Access}
 use Rattle.bus_signals.specs.declared.LocalEvent.{LocalEvent}
 use Rattle.bus_signals.specs.declared.BusEvent.{BusEvent}
 use Rattle.bus_signals.specs.declared.BusEvent.TheVariants.{Rd, Rfo, Inv, Urd, Bwr, Ubw}
-use Rattle.bus_signals.specs.Accesses.{local_events, local_number}
-use Rattle.bus_signals.specs.Signals.{bus_events, same_event}
+use Rattle.bus_signals.specs.Accesses.{local_number}
+use Rattle.bus_signals.specs.Signals.{same_event}
 use Rattle.moesi_state.specs.declared.State.{State}
 use Rattle.moesi_state.specs.declared.State.TheVariants.{M, O, E, S, I}
-use Rattle.moesi_state.specs.States.{all_states, same_state}
+use Rattle.moesi_state.specs.States.{same_state}
 use Rattle.class_relation.specs.declared.LocalAction.{LocalAction}
 use Rattle.class_relation.specs.declared.SnoopAction.{SnoopAction}
 use Rattle.class_relation.specs.Actions.{silently, by_bus, answer}
-use Rattle.class_relation.specs.Tables.{Table, locals_of, answers_of, local_cell, answer_cell}
-use Rattle.table_check.specs.KnownTables.{uncached, copy_back, copy_back_update, write_through}
+use Rattle.class_relation.specs.Tables.{Table, locals_of, answers_of}
+use Rattle.table_check.specs.KnownTables.{uncached, copy_back, copy_back_update}
+use Rattle.table_library.specs.declared.kinds.Kind.{Kind}
+use Rattle.table_library.specs.declared.kinds.Kind.TheVariants.{Invalidate, Through}
+use Rattle.table_library.specs.Cells.{table_by}
+use Rattle.table_library.specs.Protocols.{protocol_table}
 use Rattle.bus_model.specs.Setup.{Setup, BoardSpec, Shape, Plain, Cached, First}
 use Rattle.audit.specs.declared.exhibits.Change.{Change}
 use Rattle.audit.specs.declared.exhibits.Change.TheVariants.{Local, Answer}
 use Rattle.audit.specs.declared.exhibits.Step.{Step}
 
--- The alternatives of a local cell of a table after a change.
+-- The alternative that a local cell gets, if it is the cell that is changed.
+abbrev pub local_change : Change → State → LocalEvent → Option LocalAction
+local_change (Local s e action) state event =
+    if same_state s state && (local_number e == local_number event) then Some action else None
+local_change (Answer s e action) state event = None
+
+-- The alternative that an answer cell gets, if it is the cell that is changed.
+abbrev pub answer_change : Change → State → BusEvent → Option SnoopAction
+answer_change (Local s e action) state event = None
+answer_change (Answer s e action) state event =
+    if same_state s state && same_event e event then Some action else None
+
+-- One alternative in place of those of a cell, if there is one.
+abbrev pub in_place_of : {X : Type 0} → List X → Option X → List X
+in_place_of own None = own
+in_place_of own (Some action) = action ∷ []
+
+-- The alternatives of the cells of a table after a change.
 abbrev pub changed_locals : Table → Change → State → LocalEvent → List LocalAction
-changed_locals table (Local s e action) state event =
-    if same_state s state && (local_number e == local_number event)
-    then action ∷ []
-    else locals_of table state event
-changed_locals table (Answer s e action) state event = locals_of table state event
+changed_locals table change state event =
+    in_place_of (locals_of table state event) (local_change change state event)
 
--- The alternatives of an answer cell of a table after a change.
 abbrev pub changed_answers : Table → Change → State → BusEvent → List SnoopAction
-changed_answers table (Local s e action) state event = answers_of table state event
-changed_answers table (Answer s e action) state event =
-    if same_state s state && same_event e event then action ∷ [] else answers_of table state event
-
--- A table with these alternatives at the end of the cell of a state and a local event.
-abbrev pub with_locals : Table → State → LocalEvent → List LocalAction → Table
-with_locals table state event actions = record {
-  name = table.name;
-  locals = slice_set table.locals (local_cell state event) (locals_of table state event ++ actions);
-  answers = table.answers;
-}
-
--- A table with these alternatives at the end of the cell of a state and a bus event.
-abbrev pub with_answers : Table → State → BusEvent → List SnoopAction → Table
-with_answers table state event actions = record {
-  name = table.name;
-  locals = table.locals;
-  answers =
-      slice_set table.answers (answer_cell state event) (answers_of table state event ++ actions);
-}
+changed_answers table change state event =
+    in_place_of (answers_of table state event) (answer_change change state event)
 
 -- A table under another name, with one cell changed.
 abbrev pub changed : List ℕ → Table → Change → Table
-changed name table change = record {
-  name = name;
-  locals = flat_map (λ state. map (changed_locals table change state) local_events) all_states;
-  answers = flat_map (λ state. map (changed_answers table change state) bus_events) all_states;
-}
+changed name table change =
+    table_by name (changed_locals table change) (changed_answers table change)
 
 -- An uncached board that broadcasts the words that it writes.
 abbrev pub broadcasting : Table
@@ -66,7 +62,7 @@ broadcasting = changed (codes "ub") uncached (Local I LocalEvent.Write (by_bus I
 -- An exhibit: the first board's table and the change in it, the other board's table and cache, and
 -- the accesses in order.
 pub record Exhibit : Type 0 where
-  pub base : Table
+  pub base : Kind
   pub change : Change
   pub other : Table
   pub shape : Shape
@@ -95,13 +91,13 @@ write_then_read = four_turns 1 (Access.Write 0 5) ∷ four_turns 2 (Access.Read 
 -- An exhibit whose first board has a changed copy-back table.
 abbrev pub copy_back_but : Change → Table → Shape → List Step → Exhibit
 copy_back_but change other shape steps =
-    record { base = copy_back; change = change; other = other; shape = shape; steps = steps }
+    record { base = Invalidate; change = change; other = other; shape = shape; steps = steps }
 
 -- The exhibits, in their order.
 abbrev pub exhibits : List Exhibit
 exhibits =
     record {
-      base = write_through;
+      base = Through;
       change = Answer S Rd (answer S false false false);
       other = copy_back;
       shape = small;
@@ -158,7 +154,8 @@ boards_of shape =
 abbrev pub setup_of : Exhibit → Setup
 setup_of e = record {
   memory = replicate 4 0;
-  tables = changed (codes "x") e.base e.change ∷ e.other ∷ [];
+  fair = false;
+  tables = changed (codes "x") (protocol_table e.base) e.change ∷ e.other ∷ [];
   boards = boards_of e.shape;
   scripts = script_by 1 e.steps ∷ script_by 2 e.steps ∷ [];
 }

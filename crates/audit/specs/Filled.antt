@@ -66,6 +66,7 @@ filled_table table = record {
 abbrev pub filled : Setup → Setup
 filled setup = record {
   memory = setup.memory;
+  fair = setup.fair;
   tables = map filled_table setup.tables;
   boards = setup.boards;
   scripts = setup.scripts;

@@ -7,6 +7,8 @@ use Rattle.bus_model.specs.Events.{Event, Done}
 use Rattle.bus_model.specs.Configuration.{Configuration, Progress}
 use Rattle.bus_model.specs.Configuration as model
 use Rattle.bus_model.specs.Turns.{Turn, Did, Waits, Finished}
+use Rattle.audit.specs.declared.arbitration.Arbitration.{Arbitration}
+use Rattle.audit.specs.declared.arbitration.Arbitration.TheVariants.{ByNumber, Fair}
 use Rattle.audit.specs.declared.phase.Phase.{Phase}
 use Rattle.audit.specs.declared.phase.Phase.TheVariants.{Idle, Granted, Connected}
 use Rattle.audit.specs.declared.parts.Parts.{Parts}
@@ -17,6 +19,11 @@ phase_of Idle = model.Idle
 phase_of (Granted board) = model.Granted board
 phase_of (Connected transaction) = model.Connected transaction
 
+-- The arbitration, as the model has it.
+abbrev pub arbitration_of : Arbitration → model.Arbitration
+arbitration_of ByNumber = model.ByNumber
+arbitration_of (Fair served) = model.Fair served.items
+
 -- The configuration that the parts show.
 abbrev pub shown : Parts → Configuration
 shown p = record {
@@ -24,6 +31,7 @@ shown p = record {
   rows = p.rows.items;
   boards = p.boards.items;
   phase = phase_of p.phase;
+  arbitration = arbitration_of p.arbitration;
 }
 
 -- The boards have completed fewer accesses, filled fewer rows, spent fewer draws than a number.

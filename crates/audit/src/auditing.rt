@@ -1,17 +1,18 @@
 //! The audit: turns of a schedule and then rounds, until the first harm or the end of every script.
 
-ghost use Rattle.std.specs.Prelude.{◌≡◌, ◌*◌, ℕ, IfOk, OnOk, None, map};
+ghost use Rattle.std.specs.Prelude.{◌≡◌, ◌*◌, ℕ, IfOk, OnOk, None, false, map};
 ghost use Rattle.std.specs.List.{AllByRecursion};
 ghost use Rattle.bus_model.specs.Places.{repeated};
 ghost use Rattle.bus_model.specs.Setup.{AllInClass, BoardSpec, access_count, board_places};
-ghost use Rattle.bus_model.specs.Configuration.{fresh, lines_of_words, opening};
+ghost use Rattle.bus_model.specs.Configuration.{fresh, lines_of_words, opening, opening_arbitration};
 ghost use Rattle.bus_model.specs.Turns.{Did, played};
-ghost use Rattle.audit.specs.Parts.{shown};
+ghost use Rattle.audit.specs.Parts.{arbitration_of, shown};
 ghost use Rattle.audit.specs.Turns.{any_turn};
 ghost use Rattle.audit.specs.First.{IsPlaceOf, audited};
 ghost use Rattle.audit.specs.Playing.{audit_turn, audit_turns, led_to, unbegun, with_event};
 ghost use Rattle.audit.specs.Auditor.{Stands, audit_so_far};
 
+use crate::arbitration::Arbitration;
 use crate::audited::Audit;
 use crate::copies::Held;
 use crate::course::Course;
@@ -78,18 +79,44 @@ fn courses(alloc: Global, boards: &[BoardSpec]) -> Result<Vec<Course>, NoMemory>
     Ok(courses)
 }
 
+/// No board was served.
+fn unserved(alloc: Global, boards: &[BoardSpec]) -> Result<Vec<bool>, NoMemory>
+    ensures { IfOk result (λ served. served.items ≡ map (λ (spec : BoardSpec). false) boards.now) }
+{
+    let mut served = Vec::new(alloc);
+    for _board in boards {
+        let Ok(()) = served.push(false) else {
+            return Err(NoMemory);
+        };
+    }
+    Ok(served)
+}
+
+/// The arbitration of a setup at its opening.
+fn arbitration(alloc: Global, setup: &Setup) -> Result<Arbitration, NoMemory>
+    ensures { IfOk result (λ arbitration. arbitration_of arbitration
+        ≡ opening_arbitration setup.now) }
+{
+    if !setup.fair() {
+        return Ok(Arbitration::ByNumber);
+    }
+    Ok(Arbitration::Fair(unserved(alloc, setup.boards())?))
+}
+
 /// The parts of a setup at its opening.
 fn opening(alloc: Global, setup: &Setup) -> Result<Parts, NoMemory>
     ensures { IfOk result (λ parts. shown parts ≡ opening setup.now) }
 {
     let memory = lines_of(alloc, setup.memory())?;
     let boards = courses(alloc, setup.boards())?;
+    let arbitration = arbitration(alloc, setup)?;
     let rows: Vec<Held> = Vec::new(alloc);
     Ok(Parts {
         memory,
         rows,
         boards,
         phase: Phase::Idle,
+        arbitration,
     })
 }
 

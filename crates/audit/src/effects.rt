@@ -4,7 +4,7 @@ ghost use Rattle.std.specs.Prelude.{◌≡◌, ◌≤◌, ◌^◌, ◌==◌, OnO
 ghost use Rattle.std.specs.List.{list_any};
 ghost use Rattle.bus_model.specs.Carrying.{state_in};
 ghost use Rattle.bus_model.specs.Effects.{answered, put_copy, row_as};
-ghost use Rattle.bus_model.specs.Steps.{after_connect};
+ghost use Rattle.bus_model.specs.Steps.{after_connect, after_grant};
 ghost use Rattle.audit.specs.Parts.{shown, CountsAreLow, SpentBelow};
 ghost use Rattle.audit.specs.Rows.{answered_row};
 ghost use Rattle.audit.specs.Steps.{any_answering_row, any_taken_words, after_any, after_any_local, after_any_data};
@@ -175,6 +175,16 @@ fn settle(
     Ok(())
 }
 
+/// The bus is granted to a board.
+fn grant(parts: &mut Parts, winner: BoardNo)
+    requires { length parts.old.boards.items ≤ 16 }
+    ensures { shown parts.new ≡ after_grant (shown parts.old) winner }
+{
+    parts.arbitration.give(&parts.boards, winner);
+    ask(parts.boards.as_mut_slice(), winner, false);
+    parts.phase = Phase::Granted(winner);
+}
+
 /// Each answering board spends a draw.
 fn spend_all(boards: &mut [Course], answers: &[Answer])
     requires counts { SpentBelow (2 ^ 62) boards.old }
@@ -221,7 +231,8 @@ fn carry(parts: &mut Parts, carried: &Carried) -> Result<(), NoMemory>
 
 /// Does an event.
 pub fn apply(setup: &Setup, parts: &mut Parts, event: &Event) -> Result<(), NoMemory>
-    requires { CountsAreLow parts.old.boards.items }
+    requires counts { CountsAreLow parts.old.boards.items }
+    requires few { length parts.old.boards.items ≤ 16 }
     ensures { OnOk result (shown parts.new ≡ after_any setup.now (shown parts.old) event.now) }
 {
     match event {
@@ -240,8 +251,7 @@ pub fn apply(setup: &Setup, parts: &mut Parts, event: &Event) -> Result<(), NoMe
             Ok(())
         }
         Event::Grant { winner, .. } => {
-            ask(parts.boards.as_mut_slice(), *winner, false);
-            parts.phase = Phase::Granted(*winner);
+            grant(parts, *winner);
             Ok(())
         }
         Event::Connect(connected) => {

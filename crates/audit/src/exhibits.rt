@@ -5,18 +5,19 @@ ghost use Rattle.std.specs.Prelude.{◌≡◌, ◌≤◌, ◌<◌, ◌-◌, ◌+
 ghost use Rattle.class_relation.specs.Names.{is_name};
 ghost use Rattle.class_relation.specs.Rows.{rows};
 ghost use Rattle.class_relation.specs.Actions.{silently};
-ghost use Rattle.audit.specs.Exhibits.{with_locals, with_answers, changed, changed_locals, changed_answers, exhibit_of, four_turns, one_turn, script_by, turns_of, boards_of, setup_of, with_step};
+ghost use Rattle.table_library.specs.Protocols.{protocol_table};
+ghost use Rattle.audit.specs.Exhibits.{local_change, answer_change, changed, changed_locals, changed_answers, exhibit_of, four_turns, one_turn, script_by, turns_of, boards_of, setup_of, with_step};
 
-use bus_signals::{Access, Addr, BUS_EVENTS, BusEvent, LOCAL_EVENTS, LocalEvent, Response};
+use bus_signals::{Access, Addr, BusEvent, LocalEvent, Response};
 use class_relation::{LocalAction, Name, SnoopAction, Table};
-use generator::{copy_back, copy_back_update, uncached, write_through};
 use moesi_state::Outcome::Fixed;
+use moesi_state::State;
 use moesi_state::State::{E, I, M, O, S};
-use moesi_state::{STATES, State};
 use no_memory::NoMemory;
 use setup::Setup;
 use std::alloc::Global;
 use table_check::{BoardSpec, Choose, Shape};
+use table_library::{Cells, Kind, filled_table, push_answer, push_local, table_of};
 
 /// The one alternative that a cell of a table gets in place of its own.
 #[derive(Clone, Copy)]
@@ -65,94 +66,76 @@ fn answers(state: State, event: BusEvent, next: State, response: Response) -> Ch
     Change::Answer(state, event, action)
 }
 
-/// Appends the alternatives of a local cell after a change.
-fn add_local(
-    table: &mut Table,
-    base: &Table,
-    change: Change,
-    state: State,
-    event: LocalEvent,
-) -> Result<(), NoMemory>
-    ensures { OnOk result (table.new
-        ≡ with_locals table.old state event (changed_locals base.now change state event)) }
-{
-    if let Change::Local(changed_state, changed_event, action) = change {
-        if changed_state == state && changed_event == event {
-            return push_local(table, state, event, action);
+impl Change {
+    /// The alternative that a local cell gets, if it is the cell that is changed.
+    fn local(self, state: State, event: LocalEvent) -> Option<LocalAction>
+        ensures { result ≡ local_change self state event }
+    {
+        match self {
+            Change::Local(at, by, action) if at == state && by == event => Some(action),
+            _ => None,
         }
     }
-    for action in base.local(state, event) {
-        push_local(table, state, event, *action)?;
-    }
-    Ok(())
-}
 
-fn push_local(
-    table: &mut Table,
-    state: State,
-    event: LocalEvent,
-    action: LocalAction,
-) -> Result<(), NoMemory>
-    ensures { OnOk result (table.new ≡ with_locals table.old state event (action ∷ [])) }
-{
-    match table.push_local(state, event, action) {
-        Ok(()) => Ok(()),
-        Err(_) => Err(NoMemory),
-    }
-}
-
-/// Appends the alternatives of an answer cell after a change.
-fn add_answer(
-    table: &mut Table,
-    base: &Table,
-    change: Change,
-    state: State,
-    event: BusEvent,
-) -> Result<(), NoMemory>
-    ensures { OnOk result (table.new
-        ≡ with_answers table.old state event (changed_answers base.now change state event)) }
-{
-    if let Change::Answer(changed_state, changed_event, action) = change {
-        if changed_state == state && changed_event == event {
-            return push_answer(table, state, event, action);
+    /// The alternative that an answer cell gets, if it is the cell that is changed.
+    fn answer(self, state: State, event: BusEvent) -> Option<SnoopAction>
+        ensures { result ≡ answer_change self state event }
+    {
+        match self {
+            Change::Answer(at, by, answer) if at == state && by == event => Some(answer),
+            _ => None,
         }
     }
-    for action in base.snoop(state, event) {
-        push_answer(table, state, event, *action)?;
-    }
-    Ok(())
 }
 
-fn push_answer(
-    table: &mut Table,
-    state: State,
-    event: BusEvent,
-    action: SnoopAction,
-) -> Result<(), NoMemory>
-    ensures { OnOk result (table.new ≡ with_answers table.old state event (action ∷ [])) }
+/// The cells of a known table, one of them changed.
+#[derive(Clone, Copy)]
+struct Changed {
+    base: Kind,
+    change: Change,
+}
+
+impl Cells for Changed {
+    ghost locals = { λ cells. changed_locals (protocol_table cells.base) cells.change };
+
+    ghost answers = { λ cells. changed_answers (protocol_table cells.base) cells.change };
+
+    fn add_local(
+        &self,
+        table: &mut Table,
+        state: State,
+        event: LocalEvent,
+    ) -> Result<(), NoMemory> {
+        match self.change.local(state, event) {
+            Some(action) => push_local(table, state, event, action),
+            None => self.base.add_local(table, state, event),
+        }
+    }
+
+    fn add_answer(&self, table: &mut Table, state: State, event: BusEvent) -> Result<(), NoMemory> {
+        match self.change.answer(state, event) {
+            Some(answer) => push_answer(table, state, event, answer),
+            None => self.base.add_answer(table, state, event),
+        }
+    }
+}
+
+/// A known table under another name, with one cell changed.
+fn with_change(alloc: Global, name: Name, base: Kind, change: Change) -> Result<Table, NoMemory>
+    ensures { IfOk result (λ table. table ≡ changed name (protocol_table base) change) }
 {
-    match table.push_snoop(state, event, action) {
-        Ok(()) => Ok(()),
-        Err(_) => Err(NoMemory),
-    }
+    filled_table(alloc, name, &Changed { base, change })
 }
 
-/// A table under another name, with one cell changed.
-fn changed(alloc: Global, name: &str, base: &Table, change: Change) -> Result<Table, NoMemory>
+/// A valid name of a table.
+fn name_of(name: &str) -> Name
     requires { is_name name.now ≡ true }
-    ensures { IfOk result (λ table. table ≡ changed name.now base.now change) }
+    ensures { result ≡ name.now }
 {
-    let name = Name::of(name.as_bytes()).unwrap();
-    let mut table = Table::empty(alloc, name);
-    for state in STATES {
-        for event in LOCAL_EVENTS {
-            add_local(&mut table, base, change, state, event)?;
-        }
-        for event in BUS_EVENTS {
-            add_answer(&mut table, base, change, state, event)?;
-        }
+    match Name::of(name.as_bytes()) {
+        Some(name) => name,
+        None => unreachable!(),
     }
-    Ok(table)
 }
 
 const QUIET: Response = Response {
@@ -217,14 +200,16 @@ fn first_table(alloc: Global, number: u8) -> Result<Table, NoMemory>
     requires low { 1 ≤ number }
     requires high { number ≤ 12 }
     ensures { IfOk result (λ table.
-        table ≡ changed (codes "x") (exhibit_of number).base (exhibit_of number).change) }
+        table
+        ≡ changed (codes "x") (protocol_table (exhibit_of number).base)
+        (exhibit_of number).change) }
 {
     let base = if number == 1 {
-        write_through(alloc)?
+        Kind::Through
     } else {
-        copy_back(alloc)?
+        Kind::Invalidate
     };
-    changed(alloc, "x", &base, change_of(number))
+    with_change(alloc, name_of("x"), base, change_of(number))
 }
 
 /// The table of the second board.
@@ -234,17 +219,17 @@ fn second_table(alloc: Global, number: u8) -> Result<Table, NoMemory>
     ensures { IfOk result (λ table. table ≡ (exhibit_of number).other) }
 {
     match number {
-        7 | 9 => uncached(alloc),
-        8 => copy_back_update(alloc),
+        7 | 9 => table_of(alloc, Kind::Uncached),
+        8 => table_of(alloc, Kind::Update),
         11 => {
             let action = LocalAction {
                 result: Fixed(I),
                 bus: Some(BusEvent::Ubw),
             };
             let change = Change::Local(I, LocalEvent::Write, action);
-            changed(alloc, "ub", &uncached(alloc)?, change)
+            with_change(alloc, name_of("ub"), Kind::Uncached, change)
         }
-        _ => copy_back(alloc),
+        _ => table_of(alloc, Kind::Invalidate),
     }
 }
 
@@ -403,5 +388,5 @@ pub fn exhibit(alloc: Global, number: u8) -> Result<(Setup, Vec<u8>), NoMemory>
     tables.push_reserved(second_table(alloc, number)?);
     let boards = boards(alloc, second_shape(number))?;
     let Play { scripts, schedule } = steps_of(alloc, number)?;
-    Ok((Setup::of(memory, tables, boards, scripts), schedule))
+    Ok((Setup::of(memory, false, tables, boards, scripts), schedule))
 }

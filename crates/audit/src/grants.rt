@@ -1,14 +1,14 @@
 //! The grant of the bus.
 
-ghost use Rattle.std.specs.Prelude.{◌≡◌, ◌≤◌, ◌<◌, ◌++◌, ◌∷◌, [], true, length, take, if◌then◌else◌};
+ghost use Rattle.std.specs.Prelude.{◌≡◌, ◌≤◌, ◌<◌, true, length, take};
 ghost use Rattle.arbiter.specs.Contests.{IsContest};
 ghost use Rattle.bus_model.specs.Settling.{settled_lines, settled_rounds, highest};
 ghost use Rattle.bus_model.specs.Arbitration.{competing_numbers, winner_of};
 ghost use Rattle.bus_model.specs.Configuration.{is_raised};
-ghost use Rattle.bus_model.specs.Setup.{number_of};
 ghost use Rattle.audit.specs.First.{IsPlaceOf};
+ghost use Rattle.audit.specs.Parts.{shown};
 
-use crate::course::{Course, course_of};
+use crate::parts::Parts;
 use crate::seats::number_of;
 use arbiter::{Settled, Steps, settle};
 use bus_signals::BoardNo;
@@ -23,16 +23,18 @@ pub struct Win {
     pub settled: Settled,
 }
 
-/// The numbers of the boards that have raised a request, and how many they are.
-fn competing(setup: &Setup, boards: &[Course]) -> ([u16; 16], usize)
-    ensures numbers { take result.1 result.0 ≡ competing_numbers setup.now boards.now }
+/// The numbers of the boards that compete, and how many they are.
+fn competing(setup: &Setup, parts: &Parts) -> ([u16; 16], usize)
+    requires { length parts.now.boards.items ≡ length setup.now.boards }
+    ensures numbers { take result.1 result.0
+        ≡ competing_numbers setup.now (shown parts.now).arbitration (shown parts.now).boards }
     ensures within { result.1 ≤ 16 }
 {
     let mut numbers = [0; 16];
     let mut count = 0;
     for place in 0..setup.boards().len() as u8 {
         let board = BoardNo(place + 1);
-        if course_of(boards, board).raised {
+        if parts.arbitration.competes(&parts.boards, board) {
             numbers[count] = number_of(setup, board);
             count += 1;
         }
@@ -53,14 +55,17 @@ fn settled<L: Ledger>(blank: Blank, numbers: &[u16]) -> Settled
     settle(numbers, &mut Steps::<L>::new(blank))
 }
 
-/// The first board with a request raised and this number, or no board.
-fn winner(setup: &Setup, boards: &[Course], number: u16) -> BoardNo
-    ensures { number ≡ highest (competing_numbers setup.now boards.now)
-        → result ≡ winner_of setup.now boards.now }
+/// The first board that competes with this number, or no board.
+fn winner(setup: &Setup, parts: &Parts, number: u16) -> BoardNo
+    requires { length parts.now.boards.items ≡ length setup.now.boards }
+    ensures { number
+        ≡ highest (competing_numbers setup.now (shown parts.now).arbitration
+        (shown parts.now).boards)
+        → result ≡ winner_of setup.now (shown parts.now).arbitration (shown parts.now).boards }
 {
     for place in 0..setup.boards().len() as u8 {
         let board = BoardNo(place + 1);
-        if course_of(boards, board).raised && number_of(setup, board) == number {
+        if parts.arbitration.competes(&parts.boards, board) && number_of(setup, board) == number {
             return board;
         }
     }
@@ -68,18 +73,23 @@ fn winner(setup: &Setup, boards: &[Course], number: u16) -> BoardNo
 }
 
 /// The grant of the bus, where some board has raised a request.
-pub fn contest(setup: &Setup, boards: &[Course], board: BoardNo) -> Win
+pub fn contest(setup: &Setup, parts: &Parts, board: BoardNo) -> Win
     requires board { IsPlaceOf setup.now board }
-    requires raised { is_raised boards.now board ≡ true }
-    ensures winner { result.winner ≡ winner_of setup.now boards.now }
-    ensures lines { result.settled.lines ≡ settled_lines (competing_numbers setup.now boards.now) }
+    requires boards { length parts.now.boards.items ≡ length setup.now.boards }
+    requires raised { is_raised (shown parts.now).boards board ≡ true }
+    ensures winner { result.winner
+        ≡ winner_of setup.now (shown parts.now).arbitration (shown parts.now).boards }
+    ensures lines { result.settled.lines
+        ≡ settled_lines (competing_numbers setup.now (shown parts.now).arbitration
+        (shown parts.now).boards) }
     ensures rounds { result.settled.rounds
-        ≡ settled_rounds (competing_numbers setup.now boards.now) }
+        ≡ settled_rounds (competing_numbers setup.now (shown parts.now).arbitration
+        (shown parts.now).boards) }
 {
-    let (numbers, count) = competing(setup, boards);
+    let (numbers, count) = competing(setup, parts);
     let settled = settled::<Brand>(Blank::new(1), &numbers[..count]);
     Win {
-        winner: winner(setup, boards, settled.lines),
+        winner: winner(setup, parts, settled.lines),
         settled,
     }
 }

@@ -1,6 +1,7 @@
 //! The auditor: it runs any tables, accepted or not, and names the first harm that they do.
 #![tactic(auto)]
 
+mod arbitration;
 mod audited;
 mod auditing;
 mod carrying;

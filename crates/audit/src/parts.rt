@@ -3,18 +3,21 @@
 ghost use Rattle.std.specs.Prelude.{◌≡◌, ◌<◌, if◌then◌else◌, length, slice_set};
 ghost use Rattle.bus_model.specs.Configuration.{memory_line};
 
+use crate::arbitration::Arbitration;
 use crate::copies::Held;
 use crate::course::Course;
 use crate::phase::Phase;
 use bus_signals::LineNo;
 
-/// The lines of memory, the rows of all boards, what each board has done, and the phase of the bus.
+/// The lines of memory, the rows of all boards, what each board has done, the phase of the bus, and
+/// how it is arbitrated.
 #[derive(Drop)]
 pub struct Parts {
     pub memory: Vec<[u32; 4]>,
     pub rows: Vec<Held>,
     pub boards: Vec<Course>,
     pub phase: Phase,
+    pub arbitration: Arbitration,
 }
 
 /// A line of memory, or four words 0 where there is none.

@@ -2,12 +2,12 @@
 
 use super::*;
 use bus_signals::{Access, Addr, LineNo};
-use generator::{copy_back, uncached};
 use journal::{Done, Event};
 use setup::Setup;
 use std::alloc::Global;
 use std::test::Fail;
 use table_check::{BoardSpec, Choose, Shape};
+use table_library::{Kind, table_of};
 
 /// The script of one access.
 fn script(alloc: Global, access: Access) -> Result<Vec<Access>, Fail> {
@@ -21,8 +21,8 @@ fn intervention(alloc: Global) -> Result<Setup, Fail> {
     let mut memory = vec![in alloc; 0; 8]?;
     memory[5] = 100;
     let mut tables = Vec::new(alloc);
-    tables.push(copy_back(alloc)?)?;
-    tables.push(uncached(alloc)?)?;
+    tables.push(table_of(alloc, Kind::Invalidate)?)?;
+    tables.push(table_of(alloc, Kind::Uncached)?)?;
     let mut boards = Vec::new(alloc);
     boards.push(BoardSpec {
         number: 10,
@@ -39,7 +39,7 @@ fn intervention(alloc: Global) -> Result<Setup, Fail> {
     let mut scripts = Vec::new(alloc);
     scripts.push(script(alloc, Access::Write(Addr(5), 7))?)?;
     scripts.push(script(alloc, Access::Read(Addr(5)))?)?;
-    Ok(Setup::of(memory, tables, boards, scripts))
+    Ok(Setup::of(memory, false, tables, boards, scripts))
 }
 
 /// The access that the last event of an audit completes.

@@ -9,7 +9,8 @@ ghost use Rattle.moesi_state.specs.declared.Outcome.TheVariants.{Fixed};
 ghost use Rattle.bus_model.specs.Board.{is_clean};
 ghost use Rattle.bus_model.specs.Carrying.{reply_of};
 ghost use Rattle.bus_model.specs.Steps.{is_quiet};
-ghost use Rattle.bus_model.specs.Turns.{Did, decide, transaction_of, local_turn, grant_turn, request_turn, bus_turn, room_turn, transaction_turn, victim_for, action_turn};
+ghost use Rattle.bus_model.specs.Turns.{Did, decide, transaction_of, victim_for};
+ghost use Rattle.bus_model.specs.TurnParts.{local_turn, grant_turn, request_turn, bus_turn, room_turn, transaction_turn, action_turn};
 ghost use Rattle.audit.specs.First.{IsPlaceOf};
 ghost use Rattle.audit.specs.Filled.{filled};
 ghost use Rattle.audit.specs.Parts.{shown, event_in};
@@ -140,10 +141,11 @@ fn local(
 /// The grant of the bus, in the turn of a board that has raised a request.
 fn grant(setup: &Setup, parts: &Parts, board: BoardNo) -> Event
     requires board { IsPlaceOf setup.now board }
+    requires boards { length parts.now.boards.items ≡ length setup.now.boards }
     requires raised { is_raised (shown parts.now).boards board ≡ true }
     ensures { Did result ≡ grant_turn (filled setup.now) (shown parts.now) board }
 {
-    let win = contest(setup, &parts.boards, board);
+    let win = contest(setup, parts, board);
     Event::Grant {
         by: board,
         winner: win.winner,
@@ -154,7 +156,8 @@ fn grant(setup: &Setup, parts: &Parts, board: BoardNo) -> Event
 
 /// A turn of a board that has no grant and needs the bus.
 fn request(setup: &Setup, parts: &Parts, board: BoardNo) -> Option<Event>
-    requires { IsPlaceOf setup.now board }
+    requires board { IsPlaceOf setup.now board }
+    requires boards { length parts.now.boards.items ≡ length setup.now.boards }
     ensures { result
         ≡ event_in (guarded setup.now (shown parts.now)
         (request_turn (filled setup.now) (shown parts.now) board
@@ -178,7 +181,8 @@ fn by_bus(
     event: BusEvent,
     outcome: Outcome,
 ) -> Option<Event>
-    requires { IsPlaceOf setup.now board }
+    requires board { IsPlaceOf setup.now board }
+    requires boards { length parts.now.boards.items ≡ length setup.now.boards }
     ensures { result
         ≡ event_in (guarded setup.now (shown parts.now)
         (bus_turn (filled setup.now) (shown parts.now) board line event outcome
@@ -211,7 +215,8 @@ fn make_room(
     line: LineNo,
     state: State,
 ) -> Option<Event>
-    requires { IsPlaceOf setup.now board }
+    requires board { IsPlaceOf setup.now board }
+    requires boards { length parts.now.boards.items ≡ length setup.now.boards }
     ensures { result
         ≡ event_in (guarded setup.now (shown parts.now)
         (room_turn (filled setup.now) (shown parts.now) board line state (is_clean state))) }
@@ -256,7 +261,8 @@ fn transact(
     event: BusEvent,
     outcome: Outcome,
 ) -> Option<Event>
-    requires { IsPlaceOf setup.now board }
+    requires board { IsPlaceOf setup.now board }
+    requires boards { length parts.now.boards.items ≡ length setup.now.boards }
     ensures { result
         ≡ event_in (guarded setup.now (shown parts.now)
         (transaction_turn (filled setup.now) (shown parts.now) board access.now event outcome
@@ -270,7 +276,8 @@ fn transact(
 
 /// A turn of a board with an access to do.
 fn serve(setup: &Setup, parts: &Parts, board: BoardNo, access: &Access) -> Option<Event>
-    requires { IsPlaceOf setup.now board }
+    requires board { IsPlaceOf setup.now board }
+    requires boards { length parts.now.boards.items ≡ length setup.now.boards }
     ensures { let action = decide (filled setup.now) (shown parts.now) board access.now in
         result
         ≡ event_in (guarded setup.now (shown parts.now)
@@ -286,7 +293,8 @@ fn serve(setup: &Setup, parts: &Parts, board: BoardNo, access: &Access) -> Optio
 
 /// The event that a turn of a board comes to. `None` where it waits, or its script is at its end.
 pub fn turn(setup: &Setup, parts: &Parts, board: BoardNo) -> Option<Event>
-    requires { IsPlaceOf setup.now board }
+    requires board { IsPlaceOf setup.now board }
+    requires boards { length parts.now.boards.items ≡ length setup.now.boards }
     ensures { result ≡ event_in (any_turn setup.now (shown parts.now) board) }
 {
     let Some(access) = present(setup, &parts.boards, board) else {

@@ -16,5 +16,4 @@ mod words;
 pub use laws::generated_setups_are_accepted;
 pub use make::make_setup;
 pub use no_memory::NoMemory;
-pub use tables::{copy_back, copy_back_update, uncached, write_through};
 pub use turns::SeededTurns;

@@ -309,29 +309,25 @@ fn copy_back_of(alloc: Global, name: &str, writes: &[LocalRow]) -> Result<Table,
     Ok(table)
 }
 
-/// A copy-back board that invalidates other copies before it writes.
-pub fn copy_back(alloc: Global) -> Result<Table, NoMemory>
+fn copy_back(alloc: Global) -> Result<Table, NoMemory>
     ensures { IfOk result (λ table. table ≡ copy_back) }
 {
     copy_back_of(alloc, "cb", &INVALIDATING_WRITES)
 }
 
-/// A copy-back board that updates other copies when it writes.
-pub fn copy_back_update(alloc: Global) -> Result<Table, NoMemory>
+fn copy_back_update(alloc: Global) -> Result<Table, NoMemory>
     ensures { IfOk result (λ table. table ≡ copy_back_update) }
 {
     copy_back_of(alloc, "up", &UPDATING_WRITES)
 }
 
-/// A write-through board.
-pub fn write_through(alloc: Global) -> Result<Table, NoMemory>
+fn write_through(alloc: Global) -> Result<Table, NoMemory>
     ensures { IfOk result (λ table. table ≡ write_through) }
 {
     table_of(alloc, "wt", &WRITE_THROUGH_LOCALS, &WRITE_THROUGH_ANSWERS)
 }
 
-/// An uncached board.
-pub fn uncached(alloc: Global) -> Result<Table, NoMemory>
+fn uncached(alloc: Global) -> Result<Table, NoMemory>
     ensures { IfOk result (λ table. table ≡ uncached) }
 {
     table_of(alloc, "un", &UNCACHED_LOCALS, &[])
