@@ -247,6 +247,7 @@ module _ (setup : Setup) (events : List Event) (c : Configuration) (well : WellF
           boards =
               done_boards e.done (put_boards (rows_same i) c.boards e.master e.line (state_of_master e)) e.master;
           phase = Idle;
+          arbitration = c.arbitration;
         })
         ∙ sym (after_data-is c e)
 

@@ -34,7 +34,9 @@ use Rattle.bus_model.specs.Connecting.{AnswersFit, other_holders}
 use Rattle.bus_model.specs.Entries.{Entry, Legal, LegalAfter, entries, entries_with, latest_line, owed_reply, with_entry}
 use Rattle.bus_model.specs.Soundness.{Sound}
 use Rattle.bus_model.specs.Steps.{Can, CanData, CanLocal, ForAccess, ForVictim, after, after_data}
-use Rattle.bus_model.specs.Turns.{Did, Finished, Turn, Waits, access_turn, action_turn, bus_turn, decide, decide_answer, own_transaction, pick, request_turn, room_turn, transaction_of, transaction_turn, turn, turn_for, victim_for}
+use Rattle.bus_model.specs.Turns.{Did, Finished, Turn, Waits, decide, decide_answer, own_transaction, pick, transaction_of, turn, victim_for}
+use Rattle.bus_model.specs.TurnParts.{access_turn, action_turn, bus_turn, request_turn, room_turn, transaction_turn, turn_for}
+use Rattle.bus_model.proofs.TurnInParts.{in_parts}
 use Rattle.coherence.proofs.Cells.{has_local-in, in_class_there, permitted_local, reached_at}
 use Rattle.coherence.proofs.ClassFacts.{implies, implies-not, implies-use, is_fixed, is_silent, is_write, local_fact, silent_facts, silent_is_fixed}
 use Rattle.coherence.proofs.DataPhase.{after_data-is, answering_rows, done_boards, moved}
@@ -186,7 +188,8 @@ module _ (setup : Setup) (events : List Event) (c : Configuration) (well : WellF
 
   -- A turn of the filled tables is the turn.
   turn_same : (board : ℕ) → turn (filled setup) c board ≡ turn setup c board
-  turn_same board = go (present_access setup c.boards board) refl
+  turn_same board =
+      in_parts (filled setup) c board ∙ go (present_access setup c.boards board) refl ∙ sym (in_parts setup c board)
     where
       go :
           (o : Option Access) → present_access setup c.boards board ≡ o
@@ -204,7 +207,7 @@ module _ (setup : Setup) (events : List Event) (c : Configuration) (well : WellF
           inner None k =
               let a = decide setup c board access in
               let is : turn setup c board ≡ action_turn setup c board access a.result a.bus =
-              ap (turn_for setup c board) e ∙ ap (access_turn setup c board access) k in
+              in_parts setup c board ∙ ap (turn_for setup c board) e ∙ ap (access_turn setup c board access) k in
               ap (λ (x : LocalAction). action_turn (filled setup) c board access x.result x.bus)
               (decide_same board access there)
               ∙ action_same board access a.result a.bus is

@@ -7,7 +7,7 @@ use Rattle.std.proofs.lemmas.List.{map-append, take_all}
 use Rattle.std.proofs.lemmas.List.Elements.{filter-append}
 use Rattle.bus_signals.specs.declared.BusEvent.{BusEvent}
 use Rattle.bus_model.specs.Places.{places_from}
-use Rattle.bus_model.specs.Setup.{Setup, BoardSpec, board_places}
+use Rattle.bus_model.specs.Setup.{Setup, board_places}
 use Rattle.bus_model.specs.Configuration.{Configuration}
 use Rattle.bus_model.specs.Connecting.{other_holders}
 use Rattle.bus_model.specs.Events.{Answer}
@@ -30,12 +30,12 @@ pub below-push :
 below-push [] a n e h = (omega arith, tt)
 below-push (x ∷ xs) a n e h = (let b = h.0 in omega arith, below-push xs a n e h.1)
 
-pub length-places : (k : ℕ) (specs : List BoardSpec) → length (places_from k specs) ≡ length specs
+pub length-places : {X : Type 0} (k : ℕ) (specs : List X) → length (places_from k specs) ≡ length specs
 length-places k [] = refl
 length-places k (x ∷ specs) = let h = length-places (suc k) specs in omega arith
 
 pub places-more :
-    (k n : ℕ) (specs : List BoardSpec) → n < length specs
+    {X : Type 0} (k n : ℕ) (specs : List X) → n < length specs
     → take (suc n) (places_from k specs) ≡ take n (places_from k specs) ++ (k + n) ∷ []
 places-more k n [] h = absurd (omega arith)
 places-more k zero (x ∷ specs) h = let e : k + zero ≡ k = omega arith in rw e refl

@@ -18,6 +18,8 @@ use Rattle.bus_model.specs.Connecting.{responses}
 use Rattle.bus_model.specs.Effects.{answered, asking, completed, copy_as, filled as fill_more, spent, without_grant}
 use Rattle.bus_model.specs.Soundness.{BoundSound, FitsCache, RequestSound, RowSound, ScriptSound, completes, stage, used, used_with}
 use Rattle.bus_model.specs.Steps.{Can, CanData, ForAccess, ForVictim, after}
+use Rattle.bus_model.specs.Arbitration.{won_by}
+use Rattle.coherence.proofs.Competing.{competes_raised, won-fits}
 use Rattle.coherence.proofs.Bounds.{used_by_user, used_other, used_own}
 use Rattle.coherence.proofs.DataPhase.{place_then}
 use Rattle.coherence.proofs.Lists.{In, count-changed, count-falls, find-in, find-passes, in-all, in-filter_map, in-find}
@@ -97,9 +99,11 @@ row_facts setup n c (Local board before state done) well k can free =
 row_facts setup n c (Drop board line before) well k can free =
     later_facts setup n _ (gone_facts setup n c board line can.1.not_connected can.1.not_held k)
 row_facts setup n c (Raise board) well k can free =
-    asking_facts setup n c true board c.phase (raise_phase setup c true board k.transaction) k
+    asking_facts setup n c true board c.phase c.arbitration k.parts.arbitration
+    (raise_phase setup c true board k.transaction) k
 row_facts setup n c (Grant by winner lines rounds) well k can free =
-    asking_facts setup n c false winner (Granted winner) tt k
+    asking_facts setup n c false winner (Granted winner) (won_by winner c.boards c.arbitration)
+    (won-fits setup c.boards winner c.arbitration k.parts.arbitration) tt k
 row_facts setup n c (Connect t) well k can free = connect_facts setup n c t can.0 k can.1
 row_facts setup n c (DataPhase e) well k can free = data_facts setup n c e can.0 well k can.1
 
@@ -348,7 +352,8 @@ module _ (setup : Setup) (events : List Event) (c : Configuration) (well : WellF
       ≤ cond (full_of setup c.rows (change_place (asking false) c.boards winner) winner) 0 4
       + stage (change_place (asking false) c.boards winner) (Granted winner) winner
   own_grant by winner lines rounds can =
-      let old = stage_is c.boards c.phase winner true false false can.wins.raised
+      let old = stage_is c.boards c.phase winner true false false
+      (competes_raised c.arbitration c.boards winner can.wins.competes)
       (ap (λ phase. is_granted phase winner) can.idle) (ap (λ phase. is_connected phase winner) can.idle) in
       let new = stage_is (change_place (asking false) c.boards winner) (Granted winner) winner false true false
       (lowered c.boards winner) (eq-eqb winner winner refl) refl in

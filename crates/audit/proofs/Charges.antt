@@ -15,6 +15,7 @@ use Rattle.bus_model.specs.Entries.{Entry, entries, entries_of}
 use Rattle.bus_model.specs.Places.{count_where}
 use Rattle.bus_model.specs.Soundness.{completes, is_used_by, used}
 use Rattle.bus_model.specs.Steps.{Can, after}
+use Rattle.coherence.proofs.Competing.{competes_raised}
 use Rattle.coherence.proofs.Bounds.{used_by_user, used_other, used_own}
 use Rattle.coherence.proofs.DataPhase.{place_then}
 use Rattle.coherence.proofs.Journal.{Charged, charged, sum_below}
@@ -39,7 +40,7 @@ user_has setup events c (Local board before state done) k can = (done.access, ca
 user_has setup events c (Drop board line before) k can = (can.0, can.1.present)
 user_has setup events c (Raise board) k can = (can.0, can.1.present)
 user_has setup events c (Grant by winner lines rounds) k can =
-    some_of (present_access setup c.boards winner) ((k.requests winner).raised can.wins.raised)
+    some_of (present_access setup c.boards winner) ((k.requests winner).raised (competes_raised c.arbitration c.boards winner can.wins.competes))
 user_has setup events c (Connect t) k can = (can.0, can.1.present)
 user_has setup events c (DataPhase e) k can = some_of (present_access setup c.boards e.master) can.1.present
 

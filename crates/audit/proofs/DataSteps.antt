@@ -152,6 +152,7 @@ module _ (setup : Setup) (n : ℕ) (c : Configuration) (e : Carried) (t : Transa
           length-done e.done (any_placed_boards c e) e.master
           ∙ length-put (any_rows c e) c.boards e.master e.line (state_of_master e)
           ∙ k.parts.boards;
+      arbitration = k.parts.arbitration;
     };
     rows =
         rows-later (filled setup) (suc n) (suc n) (any_placed_rows c e) (any_placed_boards c e)

@@ -12,7 +12,9 @@ use Rattle.bus_model.specs.Board.{access_line}
 use Rattle.bus_model.specs.Carrying.{carried_of}
 use Rattle.bus_model.specs.Soundness.{RowsSound}
 use Rattle.bus_model.specs.Steps.{Can}
-use Rattle.bus_model.specs.Turns.{Did, Finished, LineHeld, Turn, Waits, bus_holder, turn, turn_for}
+use Rattle.bus_model.specs.Turns.{Did, Finished, LineHeld, Turn, Waits, bus_holder, turn}
+use Rattle.bus_model.specs.TurnParts.{turn_for}
+use Rattle.bus_model.proofs.TurnInParts.{in_parts}
 use Rattle.coherence.proofs.Journal.{Charged, charged_opening}
 use Rattle.coherence.proofs.Lists.{In, some_of}
 use Rattle.coherence.proofs.Opening.{sound_opening}
@@ -175,8 +177,9 @@ pub all_done_any_stays :
     (setup : Setup) (c : Configuration) (boards : List ℕ) → AllDone setup c → events_of_any setup c boards ≡ []
 all_done_any_stays setup c [] h = refl
 all_done_any_stays setup c (board ∷ boards) h =
-    let here : any_turn setup c board ≡ Finished = ap (λ o. guarded setup c (turn_for (filled setup) c board o)) (h board)
-    in
+    let here : any_turn setup c board ≡ Finished =
+    ap (guarded setup c) (in_parts (filled setup) c board)
+    ∙ ap (λ o. guarded setup c (turn_for (filled setup) c board o)) (h board) in
     ap (any_and_rest setup c boards) here ∙ all_done_any_stays setup c boards h
 
 -- ---- all that is kept along a run of any tables

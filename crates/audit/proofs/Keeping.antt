@@ -20,12 +20,12 @@ use Rattle.table_check.proofs.Accepting.{reached_answer, reached_local}
 use Rattle.bus_model.specs.Places.{change_place, count_where}
 use Rattle.bus_model.specs.Setup.{BoardSpec, Cached, Plain, Setup, Shape, ShapeFits, WellFormed, line_count, script_of, shape_of, table_of}
 use Rattle.bus_model.specs.Events.{Answer, Carried, DataPhase, Done, Event, Local, Transaction}
-use Rattle.bus_model.specs.Configuration.{Configuration, Connected, Granted, Idle, Phase, Progress, Row, has_row, is_connected, is_held, present_access, progress_of, rows_of_line, state_at, words_at}
+use Rattle.bus_model.specs.Configuration.{Arbitration, Configuration, Connected, Granted, Idle, Phase, Progress, Row, has_row, is_connected, is_held, present_access, progress_of, rows_of_line, state_at, words_at}
 use Rattle.bus_model.specs.Board.{access_line, has_no_room, is_full, is_in_set, victim}
 use Rattle.bus_model.specs.Carrying.{master_state, master_words, state_in, state_of_master, written}
 use Rattle.bus_model.specs.Connecting.{AnswersFit, other_holders, responses}
 use Rattle.bus_model.specs.Effects.{answered, asking, completed, copy_as, filled as fill_more, spent, without_grant}
-use Rattle.bus_model.specs.Soundness.{CountsWithin, PartsFit, RowsSound}
+use Rattle.bus_model.specs.Soundness.{ArbitrationFits, CountsWithin, PartsFit, RowsSound}
 use Rattle.bus_model.specs.Steps.{CanConnect, CanData, CanDrop, CanLocal, ForVictim, Purpose, is_quiet}
 use Rattle.coherence.proofs.Answers.{RowAnswered, counts-connected, rows_answered}
 use Rattle.coherence.proofs.Cells.{reached_at, spec_there}
@@ -99,21 +99,23 @@ phase-later setup rows boards later (Connected t) places h =
 -- ---- requests and connections
 
 pub asking_facts :
-    (setup : Setup) (n : ℕ) (c : Configuration) (raised : Bool) (board : ℕ) (phase : Phase)
-    → PhaseFits setup c.rows (change_place (asking raised) c.boards board) phase → RowFacts setup n c
+    (setup : Setup) (n : ℕ) (c : Configuration) (raised : Bool) (board : ℕ) (phase : Phase) (arbitration : Arbitration)
+    → ArbitrationFits setup arbitration → PhaseFits setup c.rows (change_place (asking raised) c.boards board) phase → RowFacts setup n c
     → RowFacts setup (suc n) (record {
       memory = c.memory;
       rows = c.rows;
       boards = change_place (asking raised) c.boards board;
       phase = phase;
+      arbitration = arbitration;
     })
-asking_facts setup n c raised board phase fits k =
+asking_facts setup n c raised board phase arbitration same fits k =
     let later : List Progress = change_place (asking raised) c.boards board in
     record {
       parts =
           record {
             memory = k.parts.memory;
             boards = length-change_place (asking raised) c.boards board ∙ k.parts.boards;
+            arbitration = same;
           };
       rows =
           rows-later (filled setup) n (suc n) c.rows c.boards later
@@ -138,6 +140,7 @@ pub connect_facts :
       rows = c.rows;
       boards = answered (change_place spent c.boards t.master) t.answers;
       phase = Connected t;
+      arbitration = c.arbitration;
     })
 connect_facts setup n c t access k can =
     let later : List Progress = answered (change_place spent c.boards t.master) t.answers in
@@ -151,6 +154,7 @@ connect_facts setup n c t access k can =
             memory = k.parts.memory;
             boards = length-answered t.answers (change_place spent c.boards t.master)
                 ∙ length-change_place spent c.boards t.master ∙ k.parts.boards;
+            arbitration = k.parts.arbitration;
           };
       rows =
           rows-later (filled setup) n (suc n) c.rows c.boards later fills
@@ -195,9 +199,11 @@ pub gone_facts :
       rows = filter_map (copy_as board line I []) c.rows;
       boards = c.boards;
       phase = c.phase;
+      arbitration = c.arbitration;
     })
 gone_facts setup n c board line apart free k = record {
-  parts = record { memory = k.parts.memory; boards = k.parts.boards };
+  parts =
+      record { memory = k.parts.memory; boards = k.parts.boards; arbitration = k.parts.arbitration };
   rows =
       rows-copy (filled setup) n n c.rows c.boards c.boards board line I [] (λ b. omega arith) k.rows.counts (λ e. cc)
       k.rows;

@@ -18,20 +18,24 @@ use Rattle.class_relation.specs.Actions.{answer, has_answer, has_local, silently
 use Rattle.class_relation.specs.Permitted.{is_empty}
 use Rattle.class_relation.specs.Tables.{locals_of, answers_of}
 use Rattle.bus_model.specs.Setup.{Setup, WellFormed, board_places, choose_of, line_count, number_of, table_of}
+use Rattle.bus_model.specs.Places.{places_from}
 use Rattle.bus_model.specs.Settling.{highest}
-use Rattle.bus_model.specs.Arbitration.{competing, competing_numbers, winner_of}
+use Rattle.bus_model.specs.Arbitration.{competing, competing_numbers, does_compete, winner_of}
 use Rattle.bus_model.specs.Events.{Event, Local, Drop, Raise, Grant, Connect, DataPhase, Transaction}
-use Rattle.bus_model.specs.Configuration.{Configuration, Connected, Granted, Idle, Phase, is_connected, is_granted, is_held, is_raised, present_access, progress_of, state_at, words_at}
+use Rattle.bus_model.specs.Configuration.{Arbitration, Configuration, Connected, Granted, Idle, Phase, Progress, is_connected, is_granted, is_held, is_raised, present_access, progress_of, state_at, words_at}
 use Rattle.bus_model.specs.Board.{access_line, cell_of, is_clean, is_full, needs_bus, victim}
 use Rattle.bus_model.specs.Carrying.{carried_of, reply_of}
 use Rattle.bus_model.specs.Connecting.{AnswersFit, other_holders}
 use Rattle.bus_model.specs.Soundness.{RowsSound}
 use Rattle.bus_model.specs.Steps.{Can, ForVictim, is_quiet}
-use Rattle.bus_model.specs.Turns.{Did, Finished, LineHeld, Turn, Waits, access_turn, action_turn, bus_holder, bus_turn, decide, decide_answer, local_turn, own_transaction, request_turn, room_turn, transaction_of, transaction_turn, turn, turn_for, victim_for}
+use Rattle.bus_model.specs.Turns.{Did, Finished, LineHeld, Turn, Waits, bus_holder, decide, decide_answer, own_transaction, transaction_of, turn, victim_for}
+use Rattle.bus_model.specs.TurnParts.{access_turn, action_turn, bus_turn, local_turn, request_turn, room_turn, transaction_turn, turn_for}
+use Rattle.bus_model.proofs.TurnInParts.{in_parts}
 use Rattle.coherence.proofs.Cells.{has_answer-in, has_local-in, pick-in}
+use Rattle.coherence.proofs.Competing.{some_is_competing}
 use Rattle.coherence.proofs.Lists.{In, all-in, any-in, filter-in, find-in, in-filter, in-find, map-in}
 use Rattle.coherence.proofs.Turns.{highest-in}
-use Rattle.coherence.proofs.Places.{IsPlace, in-places, places-in}
+use Rattle.coherence.proofs.Places.{IsPlace, in-places}
 use Rattle.coherence.proofs.Progress.{board_there, line_within}
 use Rattle.coherence.proofs.RowsKept.{row_sound}
 use Rattle.coherence.proofs.Victims.{full_has_victim, victim_is, victim_state}
@@ -82,25 +86,22 @@ held_quiet true true e h = refl
 held_quiet true false e h = cc
 held_quiet false quiet e h = cc
 
--- The winner of the bus has raised a request, and has the highest number.
+-- The winner of the bus competes, and has the highest number.
 pub winner_wins :
-    (setup : Setup) (c : Configuration) (board : ℕ) → IsPlace (length setup.boards) board
-    → is_raised c.boards board ≡ true
-    → (is_raised c.boards (winner_of setup c.boards) ≡ true)
-    × (number_of setup (winner_of setup c.boards) ≡ highest (competing_numbers setup c.boards))
-winner_wins setup c board there raised =
-    let test = λ (b : ℕ). number_of setup b == highest (competing_numbers setup c.boards) in
-    let here : In board (competing setup c.boards) =
-    filter-in (λ b. is_raised c.boards b) (board_places setup) board
-    (places-in setup.boards 1 board there.low (omega (arith, there.high))) raised in
-    let best = highest-in (λ b. number_of setup b) (competing setup c.boards) board here in
-    let found = find-in test (competing setup c.boards) best.0 best.1
-    (eq-eqb (number_of setup best.0) (highest (competing_numbers setup c.boards)) best.2) in
-    let member = in-find test (competing setup c.boards) found.0 found.1 in
-    let winner : winner_of setup c.boards ≡ found.0 = ap (λ o. unwrap_or o 0) found.1 in (
-      ap (is_raised c.boards) winner ∙ (in-filter (λ b. is_raised c.boards b) (board_places setup) found.0 member.0).1,
+    (setup : Setup) (a : Arbitration) (boards : List Progress) (board : ℕ) → is_raised boards board ≡ true
+    → (does_compete a boards (winner_of setup a boards) ≡ true)
+    × (number_of setup (winner_of setup a boards) ≡ highest (competing_numbers setup a boards))
+winner_wins setup a boards board raised =
+    let test = λ (b : ℕ). number_of setup b == highest (competing_numbers setup a boards) in
+    let here = some_is_competing a boards board raised in
+    let best = highest-in (λ b. number_of setup b) (competing a boards) here.0 here.1 in
+    let found = find-in test (competing a boards) best.0 best.1
+    (eq-eqb (number_of setup best.0) (highest (competing_numbers setup a boards)) best.2) in
+    let member = in-find test (competing a boards) found.0 found.1 in
+    let winner : winner_of setup a boards ≡ found.0 = ap (λ o. unwrap_or o 0) found.1 in (
+      ap (does_compete a boards) winner ∙ (in-filter (does_compete a boards) (places_from 1 boards) found.0 member.0).1,
       ap (number_of setup) winner
-          ∙ eqb-true (number_of setup found.0) (highest (competing_numbers setup c.boards)) member.1,
+          ∙ eqb-true (number_of setup found.0) (highest (competing_numbers setup a boards)) member.1,
     )
 
 -- ---- what is picked
@@ -264,11 +265,11 @@ module _ (setup : Setup) (n : ℕ) (c : Configuration) (well : WellFormed setup)
           },
         )
     request_case needs not_granted true e Idle f event did =
-        let win = winner_wins (filled setup) c board there e in
+        let win = winner_wins (filled setup) c.arbitration c.boards board e in
         subst (Can (filled setup) c) (did_same _ event did) (record {
           idle = f;
           by_raised = e;
-          wins = record { raised = win.0; number_highest = win.1; lines_settled = refl; rounds_settled = refl };
+          wins = record { competes = win.0; number_highest = win.1; lines_settled = refl; rounds_settled = refl };
         })
     request_case needs not_granted true e (Granted b) f event did = cc
     request_case needs not_granted true e (Connected t) f event did = cc
@@ -418,7 +419,8 @@ module _ (setup : Setup) (n : ℕ) (c : Configuration) (well : WellFormed setup)
 pub filled_turn_can :
     (setup : Setup) (n : ℕ) (c : Configuration) (board : ℕ) (event : Event) → WellFormed setup
     → RowsSound (filled setup) n c.rows c.boards → turn (filled setup) c board ≡ Did event → Can (filled setup) c event
-filled_turn_can setup n c board event well rows did = go (present_access setup c.boards board) refl did
+filled_turn_can setup n c board event well rows did =
+    go (present_access setup c.boards board) refl (sym (in_parts (filled setup) c board) ∙ did)
   where
     go :
         (o : Option Access) → present_access setup c.boards board ≡ o → turn_for (filled setup) c board o ≡ Did event

@@ -297,6 +297,7 @@ module _ (setup : Setup) (n : ℕ) (c : Configuration) (board : ℕ) (before sta
         boards =
             change_place (asking false) (change_place spent (change_place completed moved.boards board) board) board;
         phase = without_grant mid.phase board;
+        arbitration = moved.arbitration;
       })) (sym (put_copy-is mid board line state words)) (record {
         parts = record {
           memory = gone.facts.parts.memory;
@@ -309,6 +310,7 @@ module _ (setup : Setup) (n : ℕ) (c : Configuration) (board : ℕ) (before sta
               ∙ length-change_place completed (put_boards mid.rows mid.boards board line state) board
               ∙ length-put mid.rows mid.boards board line state
               ∙ gone.facts.parts.boards;
+          arbitration = gone.facts.parts.arbitration;
         };
         rows =
             rows-later (filled setup) (suc n) (suc n) (put_rows mid.rows mid.boards board line state words)

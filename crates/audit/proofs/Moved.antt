@@ -97,6 +97,7 @@ any_moved c e = record {
   rows = any_placed_rows c e;
   boards = done_boards e.done (any_placed_boards c e) e.master;
   phase = Idle;
+  arbitration = c.arbitration;
 }
 
 pub any_data-is : (c : Configuration) (e : Carried) → after_any_data c e ≡ any_moved c e
@@ -115,6 +116,7 @@ any_data-is c e = go e.takers.memory e.done
           rows = any_placed_rows c e;
           boards = any_placed_boards c e;
           phase = c.phase;
+          arbitration = c.arbitration;
         }
     put true =
         put_copy-is (change_rows (any_answering_row e (master_words c e)) (put_memory c e.line (any_memory_words c e)))
@@ -133,6 +135,7 @@ any_data-is c e = go e.takers.memory e.done
           rows = any_placed_rows c e;
           boards = done_boards o (any_placed_boards c e) e.master;
           phase = Idle;
+          arbitration = c.arbitration;
         }
     go b None = ap (λ p. in_phase Idle p) (put b)
     go b (Some d) = ap (λ p. in_phase Idle (complete p e.master)) (put b)

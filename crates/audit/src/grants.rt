@@ -1,10 +1,11 @@
 //! The grant of the bus.
 
-ghost use Rattle.std.specs.Prelude.{◌≡◌, ◌≤◌, ◌<◌, true, length, take};
+ghost use Rattle.std.specs.Prelude.{◌≡◌, ◌+◌, ◌≤◌, ◌<◌, ◌==◌, ◌&&◌, ◌++◌, ◌∷◌, [], true, length, take, find, unwrap_or, if◌then◌else◌};
 ghost use Rattle.arbiter.specs.Contests.{IsContest};
 ghost use Rattle.bus_model.specs.Settling.{settled_lines, settled_rounds, highest};
-ghost use Rattle.bus_model.specs.Arbitration.{competing_numbers, winner_of};
+ghost use Rattle.bus_model.specs.Arbitration.{competing, competing_numbers, does_compete, winner_of};
 ghost use Rattle.bus_model.specs.Configuration.{is_raised};
+ghost use Rattle.bus_model.specs.Setup.{number_of};
 ghost use Rattle.audit.specs.First.{IsPlaceOf};
 ghost use Rattle.audit.specs.Parts.{shown};
 
@@ -23,6 +24,20 @@ pub struct Win {
     pub settled: Settled,
 }
 
+/// Adds a number after the first ones of a list, if it competes, and returns how many it then has.
+fn add_if(competes: bool, numbers: &mut [u16; 16], count: usize, number: u16) -> usize
+    requires { count < 16 }
+    ensures numbers { take result numbers.new
+        ≡ take count numbers.old ++ (if competes then number ∷ [] else []) }
+    ensures within { result ≤ count + 1 }
+{
+    if !competes {
+        return count;
+    }
+    numbers[count] = number;
+    count + 1
+}
+
 /// The numbers of the boards that compete, and how many they are.
 fn competing(setup: &Setup, parts: &Parts) -> ([u16; 16], usize)
     requires { length parts.now.boards.items ≡ length setup.now.boards }
@@ -34,10 +49,8 @@ fn competing(setup: &Setup, parts: &Parts) -> ([u16; 16], usize)
     let mut count = 0;
     for place in 0..setup.boards().len() as u8 {
         let board = BoardNo(place + 1);
-        if parts.arbitration.competes(&parts.boards, board) {
-            numbers[count] = number_of(setup, board);
-            count += 1;
-        }
+        let competes = parts.arbitration.competes(&parts.boards, board);
+        count = add_if(competes, &mut numbers, count, number_of(setup, board));
     }
     (numbers, count)
 }
@@ -55,17 +68,27 @@ fn settled<L: Ledger>(blank: Blank, numbers: &[u16]) -> Settled
     settle(numbers, &mut Steps::<L>::new(blank))
 }
 
+/// Whether a board competes, and with this number.
+fn wins(setup: &Setup, parts: &Parts, board: BoardNo, number: u16) -> bool
+    requires board { IsPlaceOf setup.now board }
+    requires boards { length parts.now.boards.items ≡ length setup.now.boards }
+    ensures { result
+        ≡ (does_compete (shown parts.now).arbitration (shown parts.now).boards board
+        && (number_of setup.now board == number)) }
+{
+    parts.arbitration.competes(&parts.boards, board) && number_of(setup, board) == number
+}
+
 /// The first board that competes with this number, or no board.
 fn winner(setup: &Setup, parts: &Parts, number: u16) -> BoardNo
     requires { length parts.now.boards.items ≡ length setup.now.boards }
-    ensures { number
-        ≡ highest (competing_numbers setup.now (shown parts.now).arbitration
-        (shown parts.now).boards)
-        → result ≡ winner_of setup.now (shown parts.now).arbitration (shown parts.now).boards }
+    ensures { result
+        ≡ unwrap_or (find (λ board. number_of setup.now board == number)
+        (competing (shown parts.now).arbitration (shown parts.now).boards)) 0 }
 {
     for place in 0..setup.boards().len() as u8 {
         let board = BoardNo(place + 1);
-        if parts.arbitration.competes(&parts.boards, board) && number_of(setup, board) == number {
+        if wins(setup, parts, board, number) {
             return board;
         }
     }

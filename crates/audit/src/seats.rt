@@ -37,7 +37,7 @@ pub fn number_of(setup: &Setup, board: BoardNo) -> u16
     requires { IsPlaceOf setup.now board }
     ensures number { result ≡ number_of setup.now board }
     ensures low { 1 ≤ result }
-    ensures high { result ≤ 255 }
+    ensures high { result ≤ 1023 }
 {
     setup.boards()[board.0 as usize - 1].number
 }

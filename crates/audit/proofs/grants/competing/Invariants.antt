@@ -1,15 +1,13 @@
-use Rattle.std.proofs.Common.{◌≡◌, ◌≤◌, map, take}
-use Rattle.std.specs.Prelude.{filter}
-use Rattle.bus_model.specs.Setup.{board_places, number_of}
-use Rattle.bus_model.specs.Configuration.{is_raised}
+use Rattle.std.proofs.Common.{◌≡◌, ◌≤◌, take}
+use Rattle.audit.specs.Parts.{shown}
+use Rattle.audit.proofs.Granting.{numbers_among}
 use Rattle.audit.proofs.grants.competing.Given as goal
 
--- the numbers of the boards so far
+-- the numbers of those of the boards so far that compete
 abbrev pub invariant-loop-place : goal.invariant-loop-place
 invariant-loop-place l = record {
   taken :
       take l.count l.numbers
-      ≡ map (λ board. number_of l.setup board)
-      (filter (λ board. is_raised l.boards board) (take l.place (board_places l.setup)));
+      ≡ numbers_among l.setup (shown l.parts).arbitration (shown l.parts).boards l.place;
   few : l.count ≤ l.place;
 }
