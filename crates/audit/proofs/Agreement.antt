@@ -38,7 +38,7 @@ same_words-self : (ws : List ℕ) → same_words ws ws ≡ true
 same_words-self [] = refl
 same_words-self (w ∷ ws) = and_from (w == w) (same_words ws ws) (eq-eqb w w refl) (same_words-self ws)
 
-same_reply-self : (reply : Option ℕ) → same_reply reply reply ≡ true
+pub same_reply-self : (reply : Option ℕ) → same_reply reply reply ≡ true
 same_reply-self None = refl
 same_reply-self (Some word) = eq-eqb word word refl
 

@@ -47,7 +47,7 @@ first-append setup history c number (x ∷ xs) ys =
     (first_from setup (entries_after now xs) (after_any_all setup next xs) n ys)) e
 
 -- What is found has the number of one of the events.
-found_within :
+pub found_within :
     (setup : Setup) (history : List Entry) (c : Configuration) (number : ℕ) (xs : List Event) (f : Finding)
     → first_from setup history c number xs ≡ Some f → (number ≤ f.event) × (f.event < number + length xs)
 found_within setup history c number [] f e = cc

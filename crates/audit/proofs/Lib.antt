@@ -26,3 +26,4 @@ pub mod Agreement
 pub mod Watching
 pub mod Growing
 pub mod Standing
+pub mod Found

@@ -12,3 +12,4 @@ pub mod Parts
 pub mod Rows
 pub mod Answering
 pub mod Exhibits
+pub mod Laws

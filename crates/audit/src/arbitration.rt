@@ -1,6 +1,6 @@
 //! How the bus is arbitrated.
 
-ghost use Rattle.std.specs.Prelude.{◌≡◌, ◌≤◌, length};
+ghost use Rattle.std.specs.Prelude.{◌≡◌, ◌≤◌, length, true};
 ghost use Rattle.bus_model.specs.Places.{change_place};
 ghost use Rattle.bus_model.specs.Configuration.{is_served};
 ghost use Rattle.bus_model.specs.Arbitration.{is_waiting, does_any_wait, does_compete, won_by, marks_at_grant};

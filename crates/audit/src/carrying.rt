@@ -13,13 +13,13 @@ use data_phase::{carried_source, carried_states, carried_takers, done_for, writt
 use journal::{Carried, Connected, Done, Source};
 
 /// The words at a source. Where nobody gives words they are those of the master.
-fn source_words(parts: &Parts, master: BoardNo, line: LineNo, source: Source) -> [u32; 4]
-    ensures { result ≡ source_words (shown parts.now) master line source }
+fn source_words(parts: &Parts, master: BoardNo, line: LineNo, source: &Source) -> [u32; 4]
+    ensures { result ≡ source_words (shown parts.now) master line source.now }
 {
     match source {
         Source::Nobody => words_of(&parts.rows, master, line),
         Source::Memory => line_of(&parts.memory, line),
-        Source::Board(board) => words_of(&parts.rows, board, line),
+        Source::Board(board) => words_of(&parts.rows, *board, line),
     }
 }
 
@@ -28,7 +28,7 @@ pub fn carried(parts: &Parts, connected: &Connected, access: Access) -> Carried
     ensures { result ≡ carried_for (shown parts.now) connected.now (Option.Some access) }
 {
     let source = carried_source(connected);
-    let moved = source_words(parts, connected.master, connected.line, source);
+    let moved = source_words(parts, connected.master, connected.line, &source);
     Carried {
         master: connected.master,
         event: connected.event,
@@ -46,7 +46,7 @@ pub fn master_words(parts: &Parts, carried: &Carried) -> [u32; 4]
 {
     let line = carried.line;
     if carried.event.fills_row() {
-        let moved = source_words(parts, carried.master, line, carried.source);
+        let moved = source_words(parts, carried.master, line, &carried.source);
         written_by(&carried.done, moved)
     } else {
         written_by(&carried.done, words_of(&parts.rows, carried.master, line))

@@ -12,6 +12,7 @@ mod exhibits;
 mod finding;
 mod grants;
 mod harms;
+mod laws;
 mod parts;
 mod phase;
 mod picks;
@@ -23,6 +24,7 @@ pub use audited::Audit;
 pub use auditing::audit;
 pub use exhibits::exhibit;
 pub use finding::{Finding, Harm};
+pub use laws::{findings_are_first, nothing_found_is_sound};
 pub use no_memory::NoMemory;
 
 #[cfg(test)]
