@@ -43,10 +43,10 @@ all_same (row ∷ rows) latest h =
 
 -- Each of the four tests of a line passes where there is no harm.
 record Passes (owners shared words memory : Bool) : Type 0 where
-  owners : owners ≡ true
-  shared : shared ≡ false
-  words : words ≡ true
-  memory : memory ≡ false
+  one_owner : owners ≡ true
+  not_shared : shared ≡ false
+  latest_words : words ≡ true
+  latest_memory : memory ≡ false
 
 passes :
     (owners shared words memory : Bool)
@@ -57,7 +57,7 @@ passes false shared words memory h = cc
 passes true true words memory h = cc
 passes true false false memory h = cc
 passes true false true true h = cc
-passes true false true false h = record { owners = refl; shared = refl; words = refl; memory = refl }
+passes true false true false h = record { one_owner = refl; not_shared = refl; latest_words = refl; latest_memory = refl }
 
 both_false : (a b : Bool) → (a && not b) ≡ false → a ≡ true → b ≡ true
 both_false true true h e = refl
@@ -71,13 +71,13 @@ harmless_coherent rows memory latest h =
     (list_all (λ (row : Row). same_words row.words latest) rows)
     ((owner_count rows == 0) && not (same_words memory latest)) h in
     record {
-      one_owner = leb-true (owner_count rows) 1 p.owners;
-      alone = λ e. leb-true (length rows) 1 (both_false (has_alone rows) (nat_le (length rows) 1) p.shared e);
-      copies = all_same rows latest p.words;
+      one_owner = leb-true (owner_count rows) 1 p.one_owner;
+      alone = λ e. leb-true (length rows) 1 (both_false (has_alone rows) (nat_le (length rows) 1) p.not_shared e);
+      copies = all_same rows latest p.latest_words;
       unowned =
           λ e.
           words_same memory latest
-          (both_false (owner_count rows == 0) (same_words memory latest) p.memory (eq-eqb (owner_count rows) 0 e));
+          (both_false (owner_count rows == 0) (same_words memory latest) p.latest_memory (eq-eqb (owner_count rows) 0 e));
     }
 
 -- ---- what an event without harm is
@@ -96,7 +96,10 @@ owed_from memory history (Some done) h =
     reply_same done.reply (owed_reply memory history done.access)
     (go (same_reply done.reply (owed_reply memory history done.access)) h)
   where
-    go : (b : Bool) → cond b None (Some (Reply, access_line done.access)) ≡ None → b ≡ true
+    wrong : Option (Harm × ℕ)
+    wrong = Some (Reply, access_line done.access)
+
+    go : (b : Bool) → cond b None wrong ≡ None → b ≡ true
     go true k = refl
     go false k = cc
 
@@ -105,7 +108,7 @@ owed_to :
     → reply_harm memory history o ≡ None
 owed_to memory history None h = refl
 owed_to memory history (Some done) h =
-    ap (λ b. cond b None (Some (Reply, access_line done.access)))
+    ap (λ b. cond {A = Option (Harm × ℕ)} b None (Some (Reply, access_line done.access)))
     (ap (λ r. same_reply r (owed_reply memory history done.access)) h
     ∙ same_reply-self (owed_reply memory history done.access))
 
@@ -132,19 +135,19 @@ module _ (setup : Setup) (before : List Event) (event : Event) where
       ≡ None
       → DoesNoHarm setup before event
   no_harm h =
-      let p = no_first (reply_harm setup.memory (entries before) (done_in event))
+      let p = no_first (reply_harm setup.latest_memory (entries before) (done_in event))
       (lines_harm setup (entries_with (entries before) event) next) h in
       record {
-        reply = owed_from setup.memory (entries before) (done_in event) p.0;
+        reply = owed_from setup.latest_memory (entries before) (done_in event) p.0;
         coherent =
             subst (λ d. Coherent setup (before ++ event ∷ []) d) (sym led)
             (λ line low.
             subst (λ es.
             LineCoherent (rows_of_line next.rows line) (memory_line next.memory line)
-            (latest_line setup.memory es line)) (sym history)
+            (latest_line setup.latest_memory es line)) (sym history)
             (harmless_coherent (rows_of_line next.rows line) (memory_line next.memory line)
-            (latest_line setup.memory (entries_with (entries before) event) line)
-            (lowest-no_harm (harm_at setup.memory (entries_with (entries before) event) next) 0 (line_count setup) p.1
+            (latest_line setup.latest_memory (entries_with (entries before) event) line)
+            (lowest-no_harm (harm_at setup.latest_memory (entries_with (entries before) event) next) 0 (line_count setup) p.1
             line (omega arith) low)));
       }
 
@@ -154,17 +157,17 @@ module _ (setup : Setup) (before : List Event) (event : Event) where
       ≡ None
   harm_not h =
       ap (λ o. first_of_harms o (lines_harm setup (entries_with (entries before) event) next))
-      (owed_to setup.memory (entries before) (done_in event) h.reply)
-      ∙ no_harm-lowest (harm_at setup.memory (entries_with (entries before) event) next) (line_count setup)
+      (owed_to setup.latest_memory (entries before) (done_in event) h.reply)
+      ∙ no_harm-lowest (harm_at setup.latest_memory (entries_with (entries before) event) next) (line_count setup)
       (λ line low.
       coherent_harmless (rows_of_line next.rows line) (memory_line next.memory line)
-      (latest_line setup.memory (entries_with (entries before) event) line)
+      (latest_line setup.latest_memory (entries_with (entries before) event) line)
       (subst (λ es.
-      LineCoherent (rows_of_line next.rows line) (memory_line next.memory line) (latest_line setup.memory es line))
+      LineCoherent (rows_of_line next.rows line) (memory_line next.memory line) (latest_line setup.latest_memory es line))
       history
       (subst (λ d.
       LineCoherent (rows_of_line d.rows line) (memory_line d.memory line)
-      (latest_line setup.memory (entries (before ++ event ∷ [])) line)) led (h.coherent line low))))
+      (latest_line setup.latest_memory (entries (before ++ event ∷ [])) line)) led (h.coherent line low))))
 
   -- ---- the list of events
 
