@@ -1,7 +1,8 @@
 -- The boards that compete for the bus, board by board.
-use Rattle.std.proofs.Common.{◌≡◌, ℕ, zero, suc, ◌+◌, ◌<◌, ◌≤◌, Bool, true, false, cond, ◌&&◌, List, [], ◌∷◌, ◌++◌, Some, None, Option, length, map, option_map, take, drop, unwrap_or, inl, inr, refl, ap, sym, subst, ◌∙◌, arith, add-one, append-nil}
-use Rattle.std.specs.Prelude.{All, filter, find, ◌==◌}
-use Rattle.std.proofs.lemmas.List.{length-map, map-append, take_all}
+use Rattle.std.proofs.Common.{◌≡◌, ℕ, zero, suc, ◌+◌, ◌<◌, ◌≤◌, Bool, true, false, cond, ◌&&◌, ◌||◌, List, [], ◌∷◌, ◌++◌, Some, None, Option, length, map, option_map, take, drop, unwrap_or, inl, inr, refl, ap, ap₂, sym, subst, ◌∙◌, arith, add-one, append-nil}
+use Rattle.std.specs.List.{list_any}
+use Rattle.std.specs.Prelude.{All, filter, find}
+use Rattle.std.proofs.lemmas.List.{drop_all, length-map, map-append, take_all}
 use Rattle.std.proofs.lemmas.List.Elements.{filter-append}
 use Rattle.arbiter.specs.Contests.{IsContest, IsNumber}
 use Rattle.bus_model.specs.Arbitration.{competing, competing_numbers, does_compete}
@@ -100,32 +101,20 @@ is_contest setup a boards board well long raised =
         ap (λ o. unwrap_or (option_map (λ (spec : BoardSpec). spec.number) o) 0) spec.1 in
         subst IsNumber (sym number ∙ r.2) (spec.2.number_low, spec.2.number_high)
 
+-- The numbers with that of one more board, if it competes.
+pub competing-more :
+    (setup : Setup) (a : Arbitration) (boards : List Progress) (n b number : ℕ) (competes : Bool) (taken more : List ℕ)
+    → n < length boards → b ≡ suc n → taken ≡ numbers_among setup a boards n → competes ≡ does_compete a boards b
+    → number ≡ number_of setup b → more ≡ taken ++ cond competes (number ∷ []) []
+    → more ≡ numbers_among setup a boards (n + 1)
+competing-more setup a boards n b number competes taken more low is so_far compete named with_more =
+    with_more
+    ∙ ap (λ (ns : List ℕ). ns ++ cond competes (number ∷ []) []) so_far
+    ∙ ap₂ (λ (c : Bool) (k : ℕ). numbers_among setup a boards n ++ cond c (k ∷ []) [])
+    (compete ∙ ap (does_compete a boards) is) (named ∙ ap (number_of setup) is)
+    ∙ sym (numbers-more setup a boards n low) ∙ ap (numbers_among setup a boards) (sym (add-one n))
+
 -- ---- the winner
-
--- A board that does not compete, or has another number, is passed over.
-pub winner-skip :
-    (p q : ℕ → Bool) (places : List ℕ) (board : ℕ) → (p board && q board) ≡ false
-    → find q (filter p (board ∷ places)) ≡ find q (filter p places)
-winner-skip p q places board h = go (p board) (q board) refl h
-  where
-    go :
-        (a b : Bool) → q board ≡ b → (a && b) ≡ false
-        → find q (cond a (board ∷ filter p places) (filter p places)) ≡ find q (filter p places)
-    go true true e k = cc
-    go true false e k = rw e refl
-    go false b e k = refl
-
-pub winner-stop :
-    (p q : ℕ → Bool) (places : List ℕ) (board : ℕ) → (p board && q board) ≡ true
-    → find q (filter p (board ∷ places)) ≡ Some board
-winner-stop p q places board h = go (p board) (q board) refl h
-  where
-    go :
-        (a b : Bool) → q board ≡ b → (a && b) ≡ true
-        → find q (cond a (board ∷ filter p places) (filter p places)) ≡ Some board
-    go true true e k = rw e refl
-    go true false e k = cc
-    go false b e k = cc
 
 -- The places after the first ones begin with the next.
 pub places-drop :
@@ -136,3 +125,79 @@ places-drop k zero (x ∷ xs) h = let e : k + zero ≡ k = omega arith in rw e r
 places-drop k (suc n) (x ∷ xs) h =
     let e : k + suc n ≡ suc k + n = omega arith in
     places-drop (suc k) n xs (omega arith) ∙ rw e refl
+
+pub places-next :
+    {X : Type 0} (n b : ℕ) (xs : List X) → n < length xs → b ≡ suc n
+    → drop n (places_from 1 xs) ≡ b ∷ drop (n + 1) (places_from 1 xs)
+places-next n b xs low is =
+    places-drop 1 n xs low
+    ∙ ap₂ (λ (k m : ℕ). k ∷ drop m (places_from 1 xs)) (omega arith) (sym (add-one n))
+
+pub places-none : {X : Type 0} (n : ℕ) (xs : List X) → length xs ≤ n → drop n (places_from 1 xs) ≡ []
+places-none n xs h = drop_all n (places_from 1 xs) (omega (arith, length-places 1 xs))
+
+-- A board that does not compete, or has another number, is passed over.
+found_next :
+    (p q : ℕ → Bool) (places : List ℕ) (board : ℕ) → (p board && q board) ≡ false
+    → find q (filter p (board ∷ places)) ≡ find q (filter p places)
+found_next p q places board h = go (p board) (q board) refl h
+  where
+    go :
+        (a b : Bool) → q board ≡ b → (a && b) ≡ false
+        → find q (cond a (board ∷ filter p places) (filter p places)) ≡ find q (filter p places)
+    go true true e k = cc
+    go true false e k = rw e refl
+    go false b e k = refl
+
+found_here :
+    (p q : ℕ → Bool) (places : List ℕ) (board : ℕ) → (p board && q board) ≡ true
+    → find q (filter p (board ∷ places)) ≡ Some board
+found_here p q places board h = go (p board) (q board) refl h
+  where
+    go :
+        (a b : Bool) → q board ≡ b → (a && b) ≡ true
+        → find q (cond a (board ∷ filter p places) (filter p places)) ≡ Some board
+    go true true e k = rw e refl
+    go true false e k = cc
+    go false b e k = cc
+
+pub winner-skip :
+    {X : Type 0} (p q : ℕ → Bool) (xs : List X) (n b : ℕ) (o : Option ℕ) → n < length xs → b ≡ suc n
+    → o ≡ find q (filter p (drop n (places_from 1 xs))) → (p b && q b) ≡ false
+    → o ≡ find q (filter p (drop (n + 1) (places_from 1 xs)))
+winner-skip p q xs n b o low is so_far not_here =
+    so_far ∙ ap (λ ps. find q (filter p ps)) (places-next n b xs low is)
+    ∙ found_next p q (drop (n + 1) (places_from 1 xs)) b not_here
+
+pub winner-stop :
+    {X : Type 0} (p q : ℕ → Bool) (xs : List X) (n b : ℕ) (o : Option ℕ) → n < length xs → b ≡ suc n
+    → o ≡ find q (filter p (drop n (places_from 1 xs))) → (p b && q b) ≡ true → o ≡ Some b
+winner-stop p q xs n b o low is so_far here =
+    so_far ∙ ap (λ ps. find q (filter p ps)) (places-next n b xs low is)
+    ∙ found_here p q (drop (n + 1) (places_from 1 xs)) b here
+
+pub winner-none :
+    {X : Type 0} (p q : ℕ → Bool) (xs : List X) (n : ℕ) (o : Option ℕ) → length xs ≤ n
+    → o ≡ find q (filter p (drop n (places_from 1 xs))) → o ≡ None
+winner-none p q xs n o high so_far = so_far ∙ ap (λ ps. find q (filter p ps)) (places-none n xs high)
+
+-- ---- whether any board waits
+
+pub any-skip :
+    {X : Type 0} (p : ℕ → Bool) (xs : List X) (n b : ℕ) (o : Bool) → n < length xs → b ≡ suc n
+    → o ≡ list_any p (drop n (places_from 1 xs)) → p b ≡ false → o ≡ list_any p (drop (n + 1) (places_from 1 xs))
+any-skip p xs n b o low is so_far not_here =
+    so_far ∙ ap (list_any p) (places-next n b xs low is)
+    ∙ ap (λ t. t || list_any p (drop (n + 1) (places_from 1 xs))) not_here
+
+pub any-stop :
+    {X : Type 0} (p : ℕ → Bool) (xs : List X) (n b : ℕ) (o : Bool) → n < length xs → b ≡ suc n
+    → o ≡ list_any p (drop n (places_from 1 xs)) → p b ≡ true → o ≡ true
+any-stop p xs n b o low is so_far here =
+    so_far ∙ ap (list_any p) (places-next n b xs low is)
+    ∙ ap (λ t. t || list_any p (drop (n + 1) (places_from 1 xs))) here
+
+pub any-none :
+    {X : Type 0} (p : ℕ → Bool) (xs : List X) (n : ℕ) (o : Bool) → length xs ≤ n
+    → o ≡ list_any p (drop n (places_from 1 xs)) → o ≡ false
+any-none p xs n o high so_far = so_far ∙ ap (list_any p) (places-none n xs high)

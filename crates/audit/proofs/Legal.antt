@@ -51,7 +51,7 @@ did_same : (a b : Event) → Did a ≡ Did b → a ≡ b
 did_same a b e = cc
 
 -- The transaction of a board that is connected.
-own_connected :
+pub own_connected :
     (phase : Phase) (board : ℕ) (t : Transaction) → own_transaction phase board ≡ Some t
     → (phase ≡ Connected t) × (t.master ≡ board)
 own_connected Idle board t e = cc

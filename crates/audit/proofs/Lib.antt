@@ -27,3 +27,5 @@ pub mod Watching
 pub mod Growing
 pub mod Standing
 pub mod Found
+pub mod Turning
+pub mod Taking

@@ -1,5 +1,5 @@
 -- The auditor's state, event by event.
-use Rattle.std.proofs.Common.{◌≡◌, ℕ, suc, ◌*◌, ◌<◌, List, [], ◌∷◌, ◌++◌, Some, None, Option, length, ap, refl, sym, subst, ◌∙◌}
+use Rattle.std.proofs.Common.{◌≡◌, ℕ, suc, ◌*◌, ◌^◌, ◌<◌, List, [], ◌∷◌, ◌++◌, Some, None, Option, length, ap, refl, sym, subst, ◌∙◌, arith}
 use Rattle.flat_memory.specs.Flats.{IsLatest}
 use Rattle.bus_model.specs.Places.{repeated}
 use Rattle.bus_model.specs.Setup.{Setup, WellFormed, access_count, board_places, line_count}
@@ -20,14 +20,15 @@ use Rattle.audit.specs.First.{AllDone, Audit, Audited, audited, first_harm, foun
 use Rattle.audit.specs.Playing.{audit_turns, unbegun}
 use Rattle.audit.specs.Auditor.{StandsFor}
 use Rattle.audit.proofs.Ending.{Watched, after_any_all-append, any_and_rest, any_turns-append, played_ends, turns_watched, watched_opening}
+use Rattle.audit.proofs.Charges.{few_events}
 use Rattle.audit.proofs.Audits.{schedule_audit, turns_joined}
 use Rattle.audit.proofs.Legal.{any_turn_can}
 use Rattle.audit.proofs.Watching.{few_now, found_next, watched_now}
 
 -- Before the first turn.
-pub stands_opening : (setup : Setup) → StandsFor setup [] (opening setup) setup.memory None
-stands_opening setup =
-    record { boards = []; made = refl; parts = refl; latest = λ address low. refl; long = refl; first = refl }
+pub stands_opening : (setup : Setup) → WellFormed setup → StandsFor setup [] (opening setup) setup.memory None
+stands_opening setup well =
+    record { well = well; boards = []; made = refl; parts = refl; latest = λ address low. refl; long = refl; first = refl }
 
 module _
     (setup : Setup) (journal : List Event) (c next : Configuration) (flat : List ℕ) (finding : Option Finding)
@@ -53,6 +54,7 @@ module _
       → IsLatest words setup.memory (entries_with (entries journal) event) → length words ≡ length flat
       → found ≡ first_harm setup (journal ++ event ∷ []) → StandsFor setup (journal ++ event ∷ []) next words found
   stands_next words found latest long first = record {
+    well = well;
     boards = h.boards ++ board ∷ [];
     made = made_next;
     parts = led_next;
@@ -72,6 +74,12 @@ module _
 
   pub lines_next : length next.memory ≡ line_count setup
   lines_next = watched_next.kept.facts.parts.memory
+
+  pub few_next : length (journal ++ event ∷ []) < 2 ^ 32
+  few_next =
+      let few = few_events setup (journal ++ event ∷ []) next watched_next.kept watched_next.charged in
+      let most = well.accesses in
+      omega (arith, few, most)
 
   -- The event may happen.
   pub event_can : Can (filled setup) (after_any_all setup (opening setup) journal) event

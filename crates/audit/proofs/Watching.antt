@@ -133,6 +133,21 @@ pub few_now :
 few_now setup journal c flat finding well h =
     let w = watched_now setup journal c flat finding well h in few_events setup journal c w.kept w.charged
 
+-- The boards and the lines are those of the setup.
+pub boards_now :
+    (setup : Setup) (journal : List Event) (c : Configuration) (flat : List ℕ) (finding : Option Finding)
+    → WellFormed setup → StandsFor setup journal c flat finding → length c.boards ≡ length setup.boards
+boards_now setup journal c flat finding well h =
+    (watched_now setup journal c flat finding well h).kept.facts.parts.boards
+
+pub boards_few :
+    (setup : Setup) (journal : List Event) (c : Configuration) (flat : List ℕ) (finding : Option Finding)
+    → WellFormed setup → StandsFor setup journal c flat finding → length c.boards ≤ 16
+boards_few setup journal c flat finding well h =
+    let same = boards_now setup journal c flat finding well h in
+    let most = well.boards_high in
+    omega (arith, same, most)
+
 -- A board's script is no longer than all together.
 abbrev lengths : List (List Access) → ℕ
 lengths [] = 0

@@ -8,7 +8,7 @@ ghost use Rattle.bus_model.specs.Configuration.{fresh, lines_of_words, opening, 
 ghost use Rattle.bus_model.specs.Turns.{Did, played};
 ghost use Rattle.audit.specs.Parts.{arbitration_of, shown};
 ghost use Rattle.audit.specs.Turns.{any_turn};
-ghost use Rattle.audit.specs.First.{IsPlaceOf, audited};
+ghost use Rattle.audit.specs.First.{IsPlaceOf, audited, found_or};
 ghost use Rattle.audit.specs.Playing.{audit_turn, audit_turns, led_to, unbegun, with_event};
 ghost use Rattle.audit.specs.Auditor.{Stands, audit_so_far};
 
@@ -17,12 +17,12 @@ use crate::audited::Audit;
 use crate::copies::Held;
 use crate::course::Course;
 use crate::effects::apply;
-use crate::finding::Finding;
+use crate::finding::{Finding, Harm};
 use crate::harms::{harm_after, touched_by};
 use crate::parts::Parts;
 use crate::phase::Phase;
 use crate::turning::turn;
-use bus_signals::BoardNo;
+use bus_signals::{BoardNo, LineNo};
 use flat_memory::Flat;
 use journal::Event;
 use no_memory::NoMemory;
@@ -120,6 +120,16 @@ fn opening(alloc: Global, setup: &Setup) -> Result<Parts, NoMemory>
     })
 }
 
+/// A harm after the event of this number, as a finding.
+fn finding_at(event: u32, harm: Option<(Harm, LineNo)>) -> Option<Finding>
+    ensures { result ≡ found_or event harm None }
+{
+    match harm {
+        None => None,
+        Some((harm, line)) => Some(Finding { event, harm, line }),
+    }
+}
+
 impl Auditor {
     /// An audit of a setup before its first turn.
     fn open(alloc: Global, setup: Setup) -> Result<Auditor, NoMemory>
@@ -156,13 +166,7 @@ impl Auditor {
         let Ok(()) = self.journal.push(event) else {
             return Err(NoMemory);
         };
-        if let Some((harm, line)) = harm {
-            self.finding = Some(Finding {
-                event: self.journal.len() as u32,
-                harm,
-                line,
-            });
-        }
+        self.finding = finding_at(self.journal.len() as u32, harm);
         Ok(())
     }
 
