@@ -29,3 +29,4 @@ pub mod Standing
 pub mod Found
 pub mod Turning
 pub mod Taking
+pub mod ExhibitsFit
