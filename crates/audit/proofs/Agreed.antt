@@ -124,8 +124,10 @@ module _ (setup : Setup) (events : List Event) (c : Configuration) (well : WellF
     carried_same word words = go (connected_sound setup events c e t well accepted s can).purpose.2
       where
         fit : (access : Access) × (present_access setup c.boards t.master ≡ Some access)
-        fit = ((connected_sound setup events c e t well accepted s can).purpose.0,
-            (connected_sound setup events c e t well accepted s can).purpose.1)
+        fit = (
+          (connected_sound setup events c e t well accepted s can).purpose.0,
+          (connected_sound setup events c e t well accepted s can).purpose.1,
+        )
 
         access : Access
         access = fit.0

@@ -16,7 +16,8 @@ use Rattle.table_check.proofs.Reaching.{reached-test}
 use Rattle.bus_model.specs.Setup.{Setup, BoardSpec, Shape, Plain, Cached, ShapeFits, WellFormed, access_count}
 use Rattle.table_library.specs.Cells.{table_by}
 use Rattle.table_library.specs.Protocols.{protocol_table}
-use Rattle.audit.specs.Exhibits.{Exhibit, boards_of, changed, exhibit_of, exhibits, script_by, setup_of}
+use Rattle.audit.specs.declared.exhibits.ExhibitParts.{ExhibitParts}
+use Rattle.audit.specs.Exhibits.{boards_of, changed, exhibit_of, exhibits, other_table, scripts_of, setup_of}
 
 -- ---- tests
 
@@ -144,7 +145,7 @@ two_fit x other shape first second names fits addresses accesses = record {
 
 -- ---- the exhibits
 
-abbrev Fits : Exhibit → Type 0
+abbrev Fits : ExhibitParts → Type 0
 Fits e = WellFormed (setup_of e)
 
 all_fit : AllByRecursion Fits exhibits
@@ -183,9 +184,9 @@ pub parts_fit :
     → 1 ≤ number → number ≤ 12 → memory ≡ replicate 4 0
     → tables
     ≡ changed (codes "x") (protocol_table (exhibit_of number).base) (exhibit_of number).change
-    ∷ (exhibit_of number).other ∷ []
+    ∷ other_table (exhibit_of number).other ∷ []
     → boards ≡ boards_of (exhibit_of number).shape
-    → scripts ≡ script_by 1 (exhibit_of number).steps ∷ script_by 2 (exhibit_of number).steps ∷ []
+    → scripts ≡ scripts_of (exhibit_of number)
     → WellFormed (record {
       memory = memory;
       fair = false;

@@ -35,7 +35,6 @@ module _
     (board : ℕ) (event : Event) (well : WellFormed setup) (h : StandsFor setup journal c flat finding)
     (did : any_turn setup (after_any_all setup (opening setup) journal) board ≡ Did event)
     (n : next ≡ after_any setup c event) where
-
   made_next : journal ++ event ∷ [] ≡ events_of_any setup (opening setup) (h.boards ++ board ∷ [])
   made_next =
       sym (any_turns-append setup (opening setup) h.boards (board ∷ [])

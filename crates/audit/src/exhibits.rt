@@ -6,7 +6,7 @@ ghost use Rattle.class_relation.specs.Names.{is_name};
 ghost use Rattle.class_relation.specs.Rows.{rows};
 ghost use Rattle.class_relation.specs.Actions.{silently};
 ghost use Rattle.table_library.specs.Protocols.{protocol_table};
-ghost use Rattle.audit.specs.Exhibits.{local_change, answer_change, changed, changed_locals, changed_answers, exhibit_of, four_turns, one_turn, script_by, turns_of, boards_of, setup_of, with_step};
+ghost use Rattle.audit.specs.Exhibits.{local_change, answer_change, changed, changed_locals, changed_answers, other_table, exhibit_of, steps_of, four_turns, one_turn, reads, writes, both_read, one_writes, scripts_of, turns_of, boards_of, setup_of, with_step};
 
 use bus_signals::{Access, Addr, BusEvent, LocalEvent, Response};
 use class_relation::{LocalAction, Name, SnoopAction, Table};
@@ -32,6 +32,27 @@ struct Step {
     board: u8,
     access: Access,
     turns: u8,
+}
+
+/// The table of the second board: a known one, or that of an uncached board that broadcasts the words
+/// that it writes.
+#[derive(Clone, Copy)]
+enum Other {
+    Known(Kind),
+    Broadcasting,
+}
+
+/// The first board's table and the change in it, the other board's table and cache, and the accesses
+/// in order.
+#[derive(Clone, Copy)]
+struct ExhibitParts {
+    base: Kind,
+    change: Change,
+    other: Other,
+    shape: Shape,
+    first: Step,
+    second: Step,
+    third: Option<Step>,
 }
 
 /// An access that needs the bus.
@@ -173,55 +194,169 @@ fn alone(state: State, event: LocalEvent, next: State) -> Change
     Change::Local(state, event, action)
 }
 
-/// What is changed in an exhibit.
-fn change_of(number: u8) -> Change
+const SMALL: Shape = Shape::Cached { sets: 1, ways: 1 };
+
+const COPY_BACK: Other = Other::Known(Kind::Invalidate);
+
+const UNCACHED: Other = Other::Known(Kind::Uncached);
+
+/// A read of the first word.
+fn reads(board: u8) -> Step
+    ensures { result ≡ reads board }
+{
+    four_turns(board, Access::Read(Addr(0)))
+}
+
+/// A write of the first word.
+fn writes(board: u8, value: u32) -> Step
+    ensures { result ≡ writes board value }
+{
+    four_turns(board, Access::Write(Addr(0), value))
+}
+
+/// Both boards read the first word.
+fn both_read(base: Kind, change: Change, third: Option<Step>) -> ExhibitParts
+    ensures { result ≡ both_read base change third }
+{
+    ExhibitParts {
+        base,
+        change,
+        other: COPY_BACK,
+        shape: SMALL,
+        first: reads(1),
+        second: reads(2),
+        third,
+    }
+}
+
+/// The first board writes the first word.
+fn one_writes(
+    change: Change,
+    other: Other,
+    shape: Shape,
+    second: Step,
+    third: Option<Step>,
+) -> ExhibitParts
+    ensures { result ≡ one_writes change other shape second third }
+{
+    ExhibitParts {
+        base: Kind::Invalidate,
+        change,
+        other,
+        shape,
+        first: writes(1, 5),
+        second,
+        third,
+    }
+}
+
+/// An exhibit from 1 to 6.
+fn early_exhibit(number: u8) -> ExhibitParts
     requires low { 1 ≤ number }
-    requires high { number ≤ 12 }
-    ensures { result ≡ (exhibit_of number).change }
+    requires high { number ≤ 6 }
+    ensures { result ≡ exhibit_of number }
 {
     match number {
-        1 => answers(S, BusEvent::Rd, S, QUIET),
-        2 => answers(E, BusEvent::Rd, S, QUIET),
-        3 => answers(E, BusEvent::Rd, E, CH),
-        4 => answers(M, BusEvent::Rd, M, CH_DI),
-        5 => answers(M, BusEvent::Rd, O, CH),
-        6 => answers(M, BusEvent::Rfo, I, QUIET),
-        7 => alone(M, LocalEvent::Flush, I),
-        8 => answers(O, BusEvent::Bwr, O, CH_SL),
-        9 => answers(M, BusEvent::Urd, M, QUIET),
-        10 => answers(S, BusEvent::Inv, S, QUIET),
-        11 => answers(E, BusEvent::Ubw, E, QUIET),
-        _ => alone(S, LocalEvent::Write, M),
+        1 => both_read(Kind::Through, answers(S, BusEvent::Rd, S, QUIET), None),
+        2 => both_read(Kind::Invalidate, answers(E, BusEvent::Rd, S, QUIET), None),
+        3 => both_read(Kind::Invalidate, answers(E, BusEvent::Rd, E, CH), None),
+        4 => {
+            let change = answers(M, BusEvent::Rd, M, CH_DI);
+            one_writes(change, COPY_BACK, SMALL, reads(2), None)
+        }
+        5 => {
+            let change = answers(M, BusEvent::Rd, O, CH);
+            one_writes(change, COPY_BACK, SMALL, reads(2), None)
+        }
+        6 => {
+            let change = answers(M, BusEvent::Rfo, I, QUIET);
+            let second = four_turns(2, Access::Write(Addr(1), 6));
+            one_writes(change, COPY_BACK, SMALL, second, None)
+        }
+        _ => unreachable!(),
+    }
+}
+
+/// An exhibit from 7 to 12.
+fn late_exhibit(number: u8) -> ExhibitParts
+    requires low { 7 ≤ number }
+    requires high { number ≤ 12 }
+    ensures { result ≡ exhibit_of number }
+{
+    match number {
+        7 => {
+            let change = alone(M, LocalEvent::Flush, I);
+            let second = one_turn(1, Access::Flush(Addr(0)));
+            one_writes(change, UNCACHED, Shape::Plain, second, None)
+        }
+        8 => {
+            let change = answers(O, BusEvent::Bwr, O, CH_SL);
+            let third = four_turns(2, Access::Write(Addr(1), 6));
+            one_writes(
+                change,
+                Other::Known(Kind::Update),
+                SMALL,
+                reads(2),
+                Some(third),
+            )
+        }
+        9 => {
+            let change = answers(M, BusEvent::Urd, M, QUIET);
+            one_writes(change, UNCACHED, Shape::Plain, reads(2), None)
+        }
+        10 => {
+            let change = answers(S, BusEvent::Inv, S, QUIET);
+            both_read(Kind::Invalidate, change, Some(writes(2, 7)))
+        }
+        11 => ExhibitParts {
+            base: Kind::Invalidate,
+            change: answers(E, BusEvent::Ubw, E, QUIET),
+            other: Other::Broadcasting,
+            shape: Shape::Plain,
+            first: reads(1),
+            second: writes(2, 7),
+            third: None,
+        },
+        12 => {
+            let third = one_turn(1, Access::Write(Addr(0), 7));
+            both_read(
+                Kind::Invalidate,
+                alone(S, LocalEvent::Write, M),
+                Some(third),
+            )
+        }
+        _ => unreachable!(),
+    }
+}
+
+/// The exhibit of a number.
+fn exhibit_of(number: u8) -> ExhibitParts
+    requires low { 1 ≤ number }
+    requires high { number ≤ 12 }
+    ensures { result ≡ exhibit_of number }
+{
+    if number <= 6 {
+        early_exhibit(number)
+    } else {
+        late_exhibit(number)
     }
 }
 
 /// The table of the first board.
-fn first_table(alloc: Global, number: u8) -> Result<Table, NoMemory>
-    requires low { 1 ≤ number }
-    requires high { number ≤ 12 }
+fn first_table(alloc: Global, exhibit: &ExhibitParts) -> Result<Table, NoMemory>
     ensures { IfOk result (λ table.
-        table
-        ≡ changed (codes "x") (protocol_table (exhibit_of number).base)
-        (exhibit_of number).change) }
+        table ≡ changed (codes "x") (protocol_table exhibit.now.base) exhibit.now.change) }
 {
-    let base = if number == 1 {
-        Kind::Through
-    } else {
-        Kind::Invalidate
-    };
-    with_change(alloc, name_of("x"), base, change_of(number))
+    with_change(alloc, name_of("x"), exhibit.base, exhibit.change)
 }
 
 /// The table of the second board.
-fn second_table(alloc: Global, number: u8) -> Result<Table, NoMemory>
-    requires low { 1 ≤ number }
-    requires high { number ≤ 12 }
-    ensures { IfOk result (λ table. table ≡ (exhibit_of number).other) }
+fn second_table(alloc: Global, other: Other) -> Result<Table, NoMemory>
+    ensures { IfOk result (λ table. table ≡ other_table other) }
 {
-    match number {
-        7 | 9 => table_of(alloc, Kind::Uncached),
-        8 => table_of(alloc, Kind::Update),
-        11 => {
+    match other {
+        Other::Known(kind) => table_of(alloc, kind),
+        Other::Broadcasting => {
             let action = LocalAction {
                 result: Fixed(I),
                 bus: Some(BusEvent::Ubw),
@@ -229,59 +364,6 @@ fn second_table(alloc: Global, number: u8) -> Result<Table, NoMemory>
             let change = Change::Local(I, LocalEvent::Write, action);
             with_change(alloc, name_of("ub"), Kind::Uncached, change)
         }
-        _ => table_of(alloc, Kind::Invalidate),
-    }
-}
-
-/// The cache of the second board.
-fn second_shape(number: u8) -> Shape
-    requires low { 1 ≤ number }
-    requires high { number ≤ 12 }
-    ensures { result ≡ (exhibit_of number).shape }
-{
-    match number {
-        7 | 9 | 11 => Shape::Plain,
-        _ => Shape::Cached { sets: 1, ways: 1 },
-    }
-}
-
-/// The first access of an exhibit.
-fn first_step(number: u8) -> Step
-    requires low { 1 ≤ number }
-    requires high { number ≤ 12 }
-    ensures { slice_get (exhibit_of number).steps 0 ≡ Some result }
-{
-    match number {
-        4..=9 => four_turns(1, Access::Write(Addr(0), 5)),
-        _ => four_turns(1, Access::Read(Addr(0))),
-    }
-}
-
-/// The second access of an exhibit.
-fn second_step(number: u8) -> Step
-    requires low { 1 ≤ number }
-    requires high { number ≤ 12 }
-    ensures { slice_get (exhibit_of number).steps 1 ≡ Some result }
-{
-    match number {
-        6 => four_turns(2, Access::Write(Addr(1), 6)),
-        7 => one_turn(1, Access::Flush(Addr(0))),
-        11 => four_turns(2, Access::Write(Addr(0), 7)),
-        _ => four_turns(2, Access::Read(Addr(0))),
-    }
-}
-
-/// The third access of an exhibit, if it has one.
-fn third_step(number: u8) -> Option<Step>
-    requires low { 1 ≤ number }
-    requires high { number ≤ 12 }
-    ensures { slice_get (exhibit_of number).steps 2 ≡ result }
-{
-    match number {
-        8 => Some(four_turns(2, Access::Write(Addr(1), 6))),
-        10 => Some(four_turns(2, Access::Write(Addr(0), 7))),
-        12 => Some(one_turn(1, Access::Write(Addr(0), 7))),
-        _ => None,
     }
 }
 
@@ -330,18 +412,15 @@ impl Play {
 }
 
 /// The scripts and the schedule of an exhibit.
-fn steps_of(alloc: Global, number: u8) -> Result<Play, NoMemory>
-    requires low { 1 ≤ number }
-    requires high { number ≤ 12 }
-    ensures { IfOk result (λ play.
-        (rows play.scripts.items
-        ≡ script_by 1 (exhibit_of number).steps ∷ script_by 2 (exhibit_of number).steps ∷ [])
-        × (play.schedule.items ≡ turns_of (exhibit_of number).steps)) }
+fn steps_of(alloc: Global, exhibit: &ExhibitParts) -> Result<Play, NoMemory>
+    ensures scripts { IfOk result (λ play. rows play.scripts.items ≡ scripts_of exhibit.now) }
+    ensures schedule { IfOk result (λ play.
+        play.schedule.items ≡ turns_of (steps_of exhibit.now)) }
 {
     let mut play = Play::empty(alloc)?;
-    play.add(first_step(number))?;
-    play.add(second_step(number))?;
-    if let Some(step) = third_step(number) {
+    play.add(exhibit.first)?;
+    play.add(exhibit.second)?;
+    if let Some(step) = exhibit.third {
         play.add(step)?;
     }
     Ok(play)
@@ -376,17 +455,19 @@ pub fn exhibit(alloc: Global, number: u8) -> Result<(Setup, Vec<u8>), NoMemory>
     requires low { 1 ≤ number }
     requires high { number ≤ 12 }
     ensures setup { IfOk result (λ made. made.0 ≡ setup_of (exhibit_of number)) }
-    ensures schedule { IfOk result (λ made. made.1.items ≡ turns_of (exhibit_of number).steps) }
+    ensures schedule { IfOk result (λ made.
+        made.1.items ≡ turns_of (steps_of (exhibit_of number))) }
 {
+    let exhibit = exhibit_of(number);
     let Ok(memory) = vec![in alloc; 0; 4] else {
         return Err(NoMemory);
     };
     let Ok(mut tables) = Vec::with_capacity(alloc, 2) else {
         return Err(NoMemory);
     };
-    tables.push_reserved(first_table(alloc, number)?);
-    tables.push_reserved(second_table(alloc, number)?);
-    let boards = boards(alloc, second_shape(number))?;
-    let Play { scripts, schedule } = steps_of(alloc, number)?;
+    tables.push_reserved(first_table(alloc, &exhibit)?);
+    tables.push_reserved(second_table(alloc, exhibit.other)?);
+    let boards = boards(alloc, exhibit.shape)?;
+    let Play { scripts, schedule } = steps_of(alloc, &exhibit)?;
     Ok((Setup::of(memory, false, tables, boards, scripts), schedule))
 }

@@ -117,12 +117,7 @@ fn see(rows: &[Held], line: LineNo, latest: [u32; 4]) -> Seen
 }
 
 /// What is wrong with a line of these rows and these words of memory.
-fn line_harm(
-    rows: &[Held],
-    line: LineNo,
-    memory: [u32; 4],
-    latest: [u32; 4],
-) -> Option<Harm>
+fn line_harm(rows: &[Held], line: LineNo, memory: [u32; 4], latest: [u32; 4]) -> Option<Harm>
     ensures { result ≡ line_harm (rows_of_line rows.now line) memory latest }
 {
     let seen = see(rows, line, latest);

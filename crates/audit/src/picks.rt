@@ -104,7 +104,10 @@ fn draw_of(setup: &Setup, parts: &Parts, board: BoardNo) -> u32
     ensures { result
         ≡ draw (choose_of setup.now board) (progress_of (shown parts.now).boards board).spent }
 {
-    draw(choose_of(setup, board), course_of(&parts.boards, board).spent)
+    draw(
+        choose_of(setup, board),
+        course_of(&parts.boards, board).spent,
+    )
 }
 
 /// The alternative that a board picks for an access.

@@ -13,13 +13,7 @@ use setup::Setup;
 use table_check::Shape;
 
 /// The oldest row of the set of a line, where the set has all its rows and the line is not held.
-fn oldest_of_full(
-    rows: &[Held],
-    board: BoardNo,
-    line: LineNo,
-    sets: u16,
-    ways: u16,
-) -> Option<Held>
+fn oldest_of_full(rows: &[Held], board: BoardNo, line: LineNo, sets: u16, ways: u16) -> Option<Held>
     requires { 1 ≤ sets }
     ensures { result
         ≡ (if has_no_room (Cached sets ways) rows.now board line

@@ -79,7 +79,15 @@ fn answers_to(
 {
     let mut answers = Answers::new();
     for place in 0..setup.boards().len() as u8 {
-        ask(setup, parts, master, line, event, BoardNo(place + 1), &mut answers);
+        ask(
+            setup,
+            parts,
+            master,
+            line,
+            event,
+            BoardNo(place + 1),
+            &mut answers,
+        );
     }
     answers
 }
@@ -222,7 +230,14 @@ fn make_room(
         (room_turn (filled setup.now) (shown parts.now) board line state (is_clean state))) }
 {
     if !is_clean(state) {
-        return by_bus(setup, parts, board, line, BusEvent::Flu, Outcome::Fixed(State::I));
+        return by_bus(
+            setup,
+            parts,
+            board,
+            line,
+            BusEvent::Flu,
+            Outcome::Fixed(State::I),
+        );
     }
     if parts.phase.is_held(board, line) {
         return None;
