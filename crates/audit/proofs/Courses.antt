@@ -1,6 +1,7 @@
 -- A course in a list of courses is changed.
-use Rattle.std.proofs.Common.{◌≡◌, ℕ, zero, suc, ◌-◌, ◌<◌, ◌≤◌, ◌⊎◌, inl, inr, List, [], ◌∷◌, length, set, get_or, refl, ap, arith}
-use Rattle.std.proofs.lemmas.Bool.{cases_lt}
+use Rattle.std.proofs.Common.{◌≡◌, ℕ, zero, suc, ◌-◌, Bool, true, false, ◌&&◌, sym, ◌∙◌, ◌<◌, ◌≤◌, ◌⊎◌, inl, inr, List, [], ◌∷◌, length, set, get_or, refl, ap, arith}
+use Rattle.std.proofs.lemmas.Bool.{and_from, and_parts, cases_lt, le-leb, leb-true}
+use Rattle.std.specs.Prelude.{nat_le}
 use Rattle.bus_model.specs.Places.{change_index, change_place}
 
 module _ {X : Type 0} where
@@ -34,3 +35,15 @@ module _ {X : Type 0} where
       late : (k < length xs) ⊎ (length xs ≤ k) → length xs ≤ k
       late (inl h) = absurd (none (omega arith) (omega arith))
       late (inr h) = h
+
+-- What the test of a place says.
+pub among :
+    (b n : ℕ) (r : Bool) → r ≡ (nat_le 1 b && nat_le b n) → r ≡ true → (1 ≤ b) × (b ≤ n)
+among b n r is yes =
+    let p = and_parts (nat_le 1 b) (nat_le b n) (sym is ∙ yes) in (leb-true 1 b p.0, leb-true b n p.1)
+
+pub not_among :
+    (b n : ℕ) (r : Bool) → r ≡ (nat_le 1 b && nat_le b n) → r ≡ false → 1 ≤ b → b ≤ n → ⊥
+not_among b n r is no low high =
+    let there = and_from (nat_le 1 b) (nat_le b n) (le-leb 1 b low) (le-leb b n high) in
+    let f : ⊥ = cc in f

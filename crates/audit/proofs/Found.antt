@@ -135,19 +135,19 @@ module _ (setup : Setup) (before : List Event) (event : Event) where
       ≡ None
       → DoesNoHarm setup before event
   no_harm h =
-      let p = no_first (reply_harm setup.latest_memory (entries before) (done_in event))
+      let p = no_first (reply_harm setup.memory (entries before) (done_in event))
       (lines_harm setup (entries_with (entries before) event) next) h in
       record {
-        reply = owed_from setup.latest_memory (entries before) (done_in event) p.0;
+        reply = owed_from setup.memory (entries before) (done_in event) p.0;
         coherent =
             subst (λ d. Coherent setup (before ++ event ∷ []) d) (sym led)
             (λ line low.
             subst (λ es.
             LineCoherent (rows_of_line next.rows line) (memory_line next.memory line)
-            (latest_line setup.latest_memory es line)) (sym history)
+            (latest_line setup.memory es line)) (sym history)
             (harmless_coherent (rows_of_line next.rows line) (memory_line next.memory line)
-            (latest_line setup.latest_memory (entries_with (entries before) event) line)
-            (lowest-no_harm (harm_at setup.latest_memory (entries_with (entries before) event) next) 0 (line_count setup) p.1
+            (latest_line setup.memory (entries_with (entries before) event) line)
+            (lowest-no_harm (harm_at setup.memory (entries_with (entries before) event) next) 0 (line_count setup) p.1
             line (omega arith) low)));
       }
 
@@ -157,17 +157,17 @@ module _ (setup : Setup) (before : List Event) (event : Event) where
       ≡ None
   harm_not h =
       ap (λ o. first_of_harms o (lines_harm setup (entries_with (entries before) event) next))
-      (owed_to setup.latest_memory (entries before) (done_in event) h.reply)
-      ∙ no_harm-lowest (harm_at setup.latest_memory (entries_with (entries before) event) next) (line_count setup)
+      (owed_to setup.memory (entries before) (done_in event) h.reply)
+      ∙ no_harm-lowest (harm_at setup.memory (entries_with (entries before) event) next) (line_count setup)
       (λ line low.
       coherent_harmless (rows_of_line next.rows line) (memory_line next.memory line)
-      (latest_line setup.latest_memory (entries_with (entries before) event) line)
+      (latest_line setup.memory (entries_with (entries before) event) line)
       (subst (λ es.
-      LineCoherent (rows_of_line next.rows line) (memory_line next.memory line) (latest_line setup.latest_memory es line))
+      LineCoherent (rows_of_line next.rows line) (memory_line next.memory line) (latest_line setup.memory es line))
       history
       (subst (λ d.
       LineCoherent (rows_of_line d.rows line) (memory_line d.memory line)
-      (latest_line setup.latest_memory (entries (before ++ event ∷ [])) line)) led (h.coherent line low))))
+      (latest_line setup.memory (entries (before ++ event ∷ [])) line)) led (h.coherent line low))))
 
   -- ---- the list of events
 

@@ -27,6 +27,6 @@ pub mod Watching
 pub mod Growing
 pub mod Standing
 pub mod Found
-pub mod Turning
+pub mod TurnCases
 pub mod Taking
 pub mod ExhibitsFit

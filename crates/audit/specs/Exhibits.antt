@@ -1,6 +1,6 @@
 -- The exhibits: small setups of two boards. One cell of the first board's table is not as it ought
 -- to be, and it does harm.
-use Rattle.std.specs.Prelude.{ℕ, ◌-◌, ◌==◌, ◌&&◌, true, false, List, [], ◌∷◌, ◌++◌, Option, Some, None, map, flat_map, filter, replicate, slice_index_or, slice_set, if◌then◌else◌, codes}
+use Rattle.std.specs.Prelude.{ℕ, ◌-◌, ◌==◌, ◌&&◌, true, false, List, [], ◌∷◌, ◌++◌, Option, Some, None, map, flat_map, filter, replicate, slice_index_or, if◌then◌else◌, codes}
 use Rattle.std.specs.Option.{option_to_list}
 use Rattle.bus_signals.specs.declared.Access.{Access}
 use Rattle.bus_signals.specs.declared.LocalEvent.{LocalEvent}
@@ -163,12 +163,6 @@ scripts_of e = script_by 1 (steps_of e) ∷ script_by 2 (steps_of e) ∷ []
 -- The turns of an exhibit, in order.
 abbrev pub turns_of : List Step → List ℕ
 turns_of steps = flat_map (λ (step : Step). replicate step.turns step.board) steps
-
--- The scripts with the access of a step at the end of that of its board.
-abbrev pub with_step : List (List Access) → Step → List (List Access)
-with_step scripts step =
-    slice_set scripts (step.board - 1)
-    (slice_index_or scripts (step.board - 1) [] ++ step.access ∷ [])
 
 -- The two boards, the second with this cache.
 abbrev pub boards_of : Shape → List BoardSpec

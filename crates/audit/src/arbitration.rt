@@ -1,6 +1,6 @@
 //! How the bus is arbitrated.
 
-ghost use Rattle.std.specs.Prelude.{◌≡◌, ◌≤◌, length, true};
+ghost use Rattle.std.specs.Prelude.{◌≡◌, ◌≤◌, false, length, map, true};
 ghost use Rattle.bus_model.specs.Places.{change_place};
 ghost use Rattle.bus_model.specs.Configuration.{is_served};
 ghost use Rattle.bus_model.specs.Arbitration.{is_waiting, does_any_wait, does_compete, won_by, marks_at_grant};
@@ -44,13 +44,22 @@ fn does_any_wait(served: &[bool], boards: &[Course]) -> bool
     false
 }
 
+/// Takes all marks away.
+fn take_away(served: &mut [bool])
+    ensures { served.new ≡ map (λ mark. false) served.old }
+{
+    for mark in served.iter_mut() {
+        *mark = false;
+    }
+}
+
 /// Takes the marks away where no board waits to be served.
 fn clear(served: &mut [bool], boards: &[Course])
     requires { length boards.now ≤ 16 }
     ensures { served.new ≡ marks_at_grant served.old boards.now }
 {
     if !does_any_wait(served, boards) {
-        served.fill(false);
+        take_away(served);
     }
 }
 

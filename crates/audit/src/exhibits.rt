@@ -6,7 +6,7 @@ ghost use Rattle.class_relation.specs.Names.{is_name};
 ghost use Rattle.class_relation.specs.Rows.{rows};
 ghost use Rattle.class_relation.specs.Actions.{silently};
 ghost use Rattle.table_library.specs.Protocols.{protocol_table};
-ghost use Rattle.audit.specs.Exhibits.{local_change, answer_change, changed, changed_locals, changed_answers, other_table, exhibit_of, steps_of, four_turns, one_turn, reads, writes, both_read, one_writes, scripts_of, turns_of, boards_of, setup_of, with_step};
+ghost use Rattle.audit.specs.Exhibits.{local_change, answer_change, changed, changed_locals, changed_answers, other_table, exhibit_of, steps_of, four_turns, one_turn, reads, writes, both_read, one_writes, script_by, scripts_of, turns_of, boards_of, setup_of};
 
 use bus_signals::{Access, Addr, BusEvent, LocalEvent, Response};
 use class_relation::{LocalAction, Name, SnoopAction, Table};
@@ -367,63 +367,75 @@ fn second_table(alloc: Global, other: Other) -> Result<Table, NoMemory>
     }
 }
 
-/// The scripts of the two boards, and the schedule.
-#[derive(Drop)]
-struct Play {
-    scripts: Vec<Vec<Access>>,
-    schedule: Vec<u8>,
+/// Adds the access of a step to the script of a board, if it is that board's.
+fn add_access(script: &mut Vec<Access>, board: u8, step: Step) -> Result<(), NoMemory>
+    ensures { OnOk result
+        (script.new.items ≡ script.old.items ++ script_by board (step ∷ [])) }
+{
+    if step.board != board {
+        return Ok(());
+    }
+    match script.push(step.access) {
+        Ok(()) => Ok(()),
+        Err(_) => Err(NoMemory),
+    }
 }
 
-impl Play {
-    /// No access yet.
-    fn empty(alloc: Global) -> Result<Play, NoMemory>
-        ensures scripts { IfOk result (λ play. rows play.scripts.items ≡ [] ∷ [] ∷ []) }
-        ensures schedule { IfOk result (λ play. play.schedule.items ≡ []) }
-    {
-        let mut scripts = Vec::new(alloc);
-        for _board in 0..2 {
-            let Ok(()) = scripts.push(Vec::new(alloc)) else {
-                return Err(NoMemory);
-            };
+/// The script of a board.
+fn script_by(alloc: Global, board: u8, exhibit: &ExhibitParts) -> Result<Vec<Access>, NoMemory>
+    ensures { IfOk result (λ script. script.items ≡ script_by board (steps_of exhibit.now)) }
+{
+    let mut script = Vec::new(alloc);
+    add_access(&mut script, board, exhibit.first)?;
+    add_access(&mut script, board, exhibit.second)?;
+    match exhibit.third {
+        None => Ok(script),
+        Some(step) => {
+            add_access(&mut script, board, step)?;
+            Ok(script)
         }
-        let schedule = Vec::new(alloc);
-        Ok(Play { scripts, schedule })
     }
+}
 
-    /// One more access, with its turns.
-    fn add(&mut self, step: Step) -> Result<(), NoMemory>
-        requires low { 1 ≤ step.board }
-        requires high { step.board ≤ length (rows self.old.scripts.items) }
-        ensures scripts { OnOk result (rows self.new.scripts.items
-            ≡ with_step (rows self.old.scripts.items) step) }
-        ensures schedule { OnOk result (self.new.schedule.items
-            ≡ self.old.schedule.items ++ replicate step.turns step.board) }
-    {
-        let Ok(()) = self.scripts[step.board as usize - 1].push(step.access) else {
+/// The scripts of the two boards.
+fn scripts_of(alloc: Global, exhibit: &ExhibitParts) -> Result<Vec<Vec<Access>>, NoMemory>
+    ensures { IfOk result (λ scripts. rows scripts.items ≡ scripts_of exhibit.now) }
+{
+    let Ok(mut scripts) = Vec::with_capacity(alloc, 2) else {
+        return Err(NoMemory);
+    };
+    scripts.push_reserved(script_by(alloc, 1, exhibit)?);
+    scripts.push_reserved(script_by(alloc, 2, exhibit)?);
+    Ok(scripts)
+}
+
+/// Adds the turns of a step to a schedule.
+fn add_turns(schedule: &mut Vec<u8>, step: Step) -> Result<(), NoMemory>
+    ensures { OnOk result
+        (schedule.new.items ≡ schedule.old.items ++ replicate step.turns step.board) }
+{
+    for _turn in 0..step.turns {
+        let Ok(()) = schedule.push(step.board) else {
             return Err(NoMemory);
         };
-        for _turn in 0..step.turns {
-            let Ok(()) = self.schedule.push(step.board) else {
-                return Err(NoMemory);
-            };
-        }
-        Ok(())
     }
+    Ok(())
 }
 
-/// The scripts and the schedule of an exhibit.
-fn steps_of(alloc: Global, exhibit: &ExhibitParts) -> Result<Play, NoMemory>
-    ensures scripts { IfOk result (λ play. rows play.scripts.items ≡ scripts_of exhibit.now) }
-    ensures schedule { IfOk result (λ play.
-        play.schedule.items ≡ turns_of (steps_of exhibit.now)) }
+/// The turns of an exhibit, in order.
+fn turns_of(alloc: Global, exhibit: &ExhibitParts) -> Result<Vec<u8>, NoMemory>
+    ensures { IfOk result (λ schedule. schedule.items ≡ turns_of (steps_of exhibit.now)) }
 {
-    let mut play = Play::empty(alloc)?;
-    play.add(exhibit.first)?;
-    play.add(exhibit.second)?;
-    if let Some(step) = exhibit.third {
-        play.add(step)?;
+    let mut schedule = Vec::new(alloc);
+    add_turns(&mut schedule, exhibit.first)?;
+    add_turns(&mut schedule, exhibit.second)?;
+    match exhibit.third {
+        None => Ok(schedule),
+        Some(step) => {
+            add_turns(&mut schedule, step)?;
+            Ok(schedule)
+        }
     }
-    Ok(play)
 }
 
 /// The boards of an exhibit.
@@ -468,6 +480,7 @@ pub fn exhibit(alloc: Global, number: u8) -> Result<(Setup, Vec<u8>), NoMemory>
     tables.push_reserved(first_table(alloc, &exhibit)?);
     tables.push_reserved(second_table(alloc, exhibit.other)?);
     let boards = boards(alloc, exhibit.shape)?;
-    let Play { scripts, schedule } = steps_of(alloc, &exhibit)?;
+    let scripts = scripts_of(alloc, &exhibit)?;
+    let schedule = turns_of(alloc, &exhibit)?;
     Ok((Setup::of(memory, false, tables, boards, scripts), schedule))
 }

@@ -76,6 +76,7 @@ fn wins(setup: &Setup, parts: &Parts, board: BoardNo, number: u16) -> bool
         ≡ (does_compete (shown parts.now).arbitration (shown parts.now).boards board
         && (number_of setup.now board == number)) }
 {
+    let _boards = setup.boards(); // gives the number of boards to the prover
     parts.arbitration.competes(&parts.boards, board) && number_of(setup, board) == number
 }
 
@@ -109,6 +110,7 @@ pub fn contest(setup: &Setup, parts: &Parts, board: BoardNo) -> Win
         ≡ settled_rounds (competing_numbers setup.now (shown parts.now).arbitration
         (shown parts.now).boards) }
 {
+    let _boards = setup.boards(); // gives the limits of a setup to the prover
     let (numbers, count) = competing(setup, parts);
     let settled = settled::<Brand>(Blank::new(1), &numbers[..count]);
     Win {
