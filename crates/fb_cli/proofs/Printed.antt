@@ -14,25 +14,27 @@ use Rattle.fb_cli.specs.Output.{Output, Files, refusal_output}
 use Rattle.fb_cli.specs.Command.{File, Command, Found, none, found, Answers, Asked, Does, Due, Follows, IsAnswer, IsUnread, Written, known, status_on}
 use Rattle.fb_cli.specs.Replies.{Comes, ComesTo, answer_output, reply_output}
 
--- The statuses of answers: 0, 1, 3 and 7.
+-- The statuses of answers: 0, 1, 3, 7 and 9.
 record IsOutcome (status : ℕ) : Type 0 where
-  most : status ≤ 7
+  most : (status ≤ 7) ⊎ (status ≡ 9)
   not_2 : status ≡ 2 → ⊥
   not_4_to_6 : 3 < status → 6 < status
 
 is_outcome : (a : Answer) → IsOutcome (answer_output a).status
 is_outcome (Said outcomes.Done text) =
-    record { most = omega arith; not_2 = λ two. omega (arith, two); not_4_to_6 = λ high. omega (arith, high) }
+    record { most = inl (omega arith); not_2 = λ two. omega (arith, two); not_4_to_6 = λ high. omega (arith, high) }
 is_outcome (Said outcomes.Refused text) =
-    record { most = omega arith; not_2 = λ two. omega (arith, two); not_4_to_6 = λ high. omega (arith, high) }
+    record { most = inl (omega arith); not_2 = λ two. omega (arith, two); not_4_to_6 = λ high. omega (arith, high) }
 is_outcome (Said outcomes.Malformed text) =
-    record { most = omega arith; not_2 = λ two. omega (arith, two); not_4_to_6 = λ high. omega (arith, high) }
+    record { most = inl (omega arith); not_2 = λ two. omega (arith, two); not_4_to_6 = λ high. omega (arith, high) }
 is_outcome (Said outcomes.TooLong text) =
-    record { most = omega arith; not_2 = λ two. omega (arith, two); not_4_to_6 = λ high. omega (arith, high) }
+    record { most = inl (omega arith); not_2 = λ two. omega (arith, two); not_4_to_6 = λ high. omega (arith, high) }
+is_outcome (Said outcomes.NothingLeft text) =
+    record { most = inr refl; not_2 = λ two. omega (arith, two); not_4_to_6 = λ high. omega (arith, high) }
 is_outcome (Ran machine room) =
-    record { most = omega arith; not_2 = λ two. omega (arith, two); not_4_to_6 = λ high. omega (arith, high) }
+    record { most = inl (omega arith); not_2 = λ two. omega (arith, two); not_4_to_6 = λ high. omega (arith, high) }
 is_outcome (Replayed machine room) =
-    record { most = omega arith; not_2 = λ two. omega (arith, two); not_4_to_6 = λ high. omega (arith, high) }
+    record { most = inl (omega arith); not_2 = λ two. omega (arith, two); not_4_to_6 = λ high. omega (arith, high) }
 
 -- The status of a command, or want of memory, unless a count rose.
 abbrev Exact : Command → Option Files → Type 0 → Type 0 → ℕ → Type 0
@@ -87,7 +89,8 @@ cut_short command files A B before after text status due is rose front = record 
   unwritten = λ s. (rose, (text, due, front));
   no_memory = λ s. absurd (omega arith);
   too_long = λ s. absurd (omega arith);
-  no_other = omega arith;
+  none_left = λ s. absurd (omega arith);
+  no_other = inl (omega arith);
   exact = sink_failed command (known command.opens files) A B status rose;
 }
 
@@ -107,7 +110,8 @@ was_said command files A B before after o status asked outcome (inl (is, taken))
   unwritten = λ s. absurd (omega (arith, outcome.not_4_to_6));
   no_memory = λ s. absurd (omega (arith, outcome.not_4_to_6));
   too_long = λ s. (o, asked, sym is ∙ s, taken);
-  no_other = omega (arith, outcome.most);
+  none_left = λ s. (o, asked, sym is ∙ s, taken);
+  no_other = subst (λ (n : ℕ). (n ≤ 7) ⊎ (n ≡ 9)) (sym is) outcome.most;
   exact = as_known command (known command.opens files) A B o status asked is;
 }
 
@@ -129,7 +133,8 @@ was_unread command files A B before after role text status unread told (inl (is,
   unwritten = λ s. absurd (omega arith);
   no_memory = λ s. absurd (omega arith);
   too_long = λ s. absurd (omega arith);
-  no_other = omega arith;
+  none_left = λ s. absurd (omega arith);
+  no_other = inl (omega arith);
   exact = shelf_failed command (known command.opens files) A B status (shelf_rose command.opens files A role unread);
 }
 
@@ -147,7 +152,8 @@ had_no_memory command files A B before after status (inl (is, taken)) = record {
   unwritten = λ s. absurd (omega arith);
   no_memory = λ s. taken;
   too_long = λ s. absurd (omega arith);
-  no_other = omega arith;
+  none_left = λ s. absurd (omega arith);
+  no_other = inl (omega arith);
   exact = no_memory_left command (known command.opens files) A B status is;
 }
 

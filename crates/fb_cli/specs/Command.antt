@@ -114,7 +114,8 @@ pub record Answers (command : Command) (files : Option Files) (shelf_rose sink_r
       × ((text : List ℕ) × Due command files shelf_rose text × AppendsFront before after text)
   pub no_memory : status ≡ 6 → Appends before after (refusal_output Refusal.NoMemory).text
   pub too_long : status ≡ 7 → Taken command files before after 7
-  pub no_other : status ≤ 7
+  pub none_left : status ≡ 9 → Taken command files before after 9
+  pub no_other : (status ≤ 7) ⊎ (status ≡ 9)
   -- and it comes there, unless a count rose or memory ran out
   pub exact :
       IfSome (known command.opens files)

@@ -14,6 +14,7 @@ status_of Outcome.Done = 0
 status_of Outcome.Refused = 1
 status_of Outcome.Malformed = 3
 status_of Outcome.TooLong = 7
+status_of Outcome.NothingLeft = 9
 
 -- The output of an answer: what it says, the run of its machine, or the ending of that run.
 abbrev pub answer_output : Answer → Output

@@ -5,6 +5,8 @@ use Rattle.std.specs.Str.{bytes_eq}
 use Rattle.std.specs.Result.{result_ok}
 use Rattle.fb_text.specs.Number.{number_of}
 use Rattle.fb_text.specs.Unread.{number_within}
+use Rattle.table_library.specs.declared.kinds.Kind.{Kind}
+use Rattle.table_library.specs.Protocols.{kind_named}
 use Rattle.usage.specs.Usage.{help_text, page_named, pages, version_text}
 use Rattle.fb_cli.specs.Command.{Command, Found, none, found, alone, printing}
 use Rattle.fb_cli.specs.Check.{check}
@@ -14,6 +16,9 @@ use Rattle.fb_cli.specs.Replay.{replay}
 use Rattle.fb_cli.specs.Race.{race}
 use Rattle.fb_cli.specs.Make.{make}
 use Rattle.fb_cli.specs.Tally.{tally}
+use Rattle.fb_cli.specs.Library.{library}
+use Rattle.fb_cli.specs.Narrow.{narrow}
+use Rattle.fb_cli.specs.Traffic.{traffic, traffic_seeded}
 use Rattle.fb_cli.specs.Explain.{explained}
 
 -- The number of 64 bits that a word spells.
@@ -21,7 +26,7 @@ abbrev pub seed_of : List ℕ → Option ℕ
 seed_of word = result_ok (number_within 18446744073709551615 (number_of word))
 
 -- What the words name after a first word: any words, no word, a file, two files, a number, a file
--- and, after `seed`, a number, or a command, by the text of its page.
+-- and, after `seed`, a number, a protocol, or a command, by the text of its page.
 abbrev pub words_after : List ℕ → List (List ℕ) → Option (List (List ℕ))
 words_after name (word ∷ words) = if bytes_eq word name then Some words else None
 words_after name words = None
@@ -52,6 +57,10 @@ file_and_seed_after name (word ∷ file ∷ seed ∷ number ∷ []) =
     else None
 file_and_seed_after name words = None
 
+abbrev pub kind_after : List ℕ → List (List ℕ) → Option Kind
+kind_after name (word ∷ kind ∷ []) = if bytes_eq word name then kind_named kind else None
+kind_after name words = None
+
 abbrev pub page_after : List ℕ → List (List ℕ) → Option (List ℕ)
 page_after name (word ∷ command ∷ []) =
     if bytes_eq word name then page_named command pages else None
@@ -74,6 +83,7 @@ abbrev pub fileless_rows : List Row
 fileless_rows =
     row (seed_after (codes "make")) make
     ∷ row (seed_after (codes "tally")) tally
+    ∷ row (kind_after (codes "library")) library
     ∷ row (alone_is (codes "help")) (λ word. printing help_text)
     ∷ row (alone_is (codes "-h")) (λ word. printing help_text)
     ∷ row (alone_is (codes "--help")) (λ word. printing help_text)
@@ -90,6 +100,9 @@ quiet_rows =
     ∷ row (files_after (codes "run")) (λ names. run names.0 names.1)
     ∷ row (file_and_seed_after (codes "run")) (λ named. run_seeded named.0 named.1)
     ∷ row (files_after (codes "replay")) (λ names. replay names.0 names.1)
+    ∷ row (file_after (codes "narrow")) narrow
+    ∷ row (files_after (codes "traffic")) (λ names. traffic names.0 names.1)
+    ∷ row (file_and_seed_after (codes "traffic")) (λ named. traffic_seeded named.0 named.1)
     ∷ fileless_rows
 
 -- The command of the first row that the words match.

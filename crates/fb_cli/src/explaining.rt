@@ -14,10 +14,11 @@ use crate::helping::say;
 use crate::opening::limit_of;
 use crate::role::Role;
 use crate::rows::{
-    alone_is, file_after, file_and_seed_after, files_after, page_after, seed_after, words_after,
+    alone_is, file_after, file_and_seed_after, files_after, kind_after, page_after, seed_after,
+    words_after,
 };
 use crate::seen::Seen;
-use crate::{checking, replaying, running, showing};
+use crate::{checking, narrowing, replaying, running, showing};
 use explain::{
     explain_length, explain_schedule, explain_setup, explain_tables, explain_trace, explain_unread,
     explain_words,
@@ -39,6 +40,9 @@ fn is_fileless(words: &[String]) -> Result<(), Reply>
         return Ok(());
     }
     if let Some(_) = seed_after("tally", words) {
+        return Ok(());
+    }
+    if let Some(_) = kind_after("library", words) {
         return Ok(());
     }
     if let Some(_) = alone_is("help", words) {
@@ -89,6 +93,15 @@ fn ready<F: Shelf>(
     }
     if let Some((setup, trace)) = files_after("replay", words) {
         return done(replaying::ready(alloc, setup, trace, shelf, seen));
+    }
+    if let Some(table) = file_after("narrow", words) {
+        return done(narrowing::ready(alloc, table, shelf, seen));
+    }
+    if let Some((setup, schedule)) = files_after("traffic", words) {
+        return done(running::ready(alloc, setup, schedule, shelf, seen));
+    }
+    if let Some((setup, _)) = file_and_seed_after("traffic", words) {
+        return done(running::ready_setup(alloc, setup, shelf, seen));
     }
     is_fileless(words)
 }

@@ -1,9 +1,10 @@
 //! What the words of a command line name after a first word.
 
 ghost use Rattle.std.specs.Prelude.{◌≡◌, ℕ, List, map, string_bytes, option_map};
-ghost use Rattle.fb_cli.specs.Rows.{alone_is, file_after, file_and_seed_after, files_after, page_after, seed_after, seed_of, words_after};
+ghost use Rattle.fb_cli.specs.Rows.{alone_is, file_after, file_and_seed_after, files_after, kind_after, page_after, seed_after, seed_of, words_after};
 
 use fb_text::number_within;
+use table_library::{Kind, kind_of};
 use usage::page_named;
 
 /// The number that a word spells, if it is one of 64 bits.
@@ -34,6 +35,16 @@ pub fn alone_is<'a>(name: &str, words: &'a [String]) -> Option<&'a str>
 {
     match words {
         [word] if word.as_str() == name => Some(word.as_str()),
+        _ => None,
+    }
+}
+
+/// A protocol.
+pub fn kind_after(name: &str, words: &[String]) -> Option<Kind>
+    ensures { result ≡ kind_after name.now (map string_bytes words.now) }
+{
+    match words {
+        [word, kind] if word.as_str() == name => kind_of(kind.as_bytes()),
         _ => None,
     }
 }

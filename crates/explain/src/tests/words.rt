@@ -19,12 +19,12 @@ fn words_are_explained(rt: HostRuntime) -> Result<(), Fail> {
     let rows = [
         (
             "chek F",
-            "chek is no command. The commands are check, show, run, race, replay, make, tally, explain, help or version.\n\
+            "chek is no command. The commands are check, show, run, race, replay, make, tally, library, narrow, traffic, explain, help or version.\n\
             Is check meant?\n",
         ),
         (
             "Check F",
-            "Check is no command. The commands are check, show, run, race, replay, make, tally, explain, help or version.\n\
+            "Check is no command. The commands are check, show, run, race, replay, make, tally, library, narrow, traffic, explain, help or version.\n\
             Is check meant?\n",
         ),
         (
