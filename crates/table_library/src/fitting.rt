@@ -69,8 +69,7 @@ fn local_cells_fit(table: &Table, set: &StateSet, state: State) -> bool
     ensures { result ≡ list_all (fits_where_local table.now set.now state) local_events }
 {
     LOCAL_EVENTS.iter().all(|event| {
-        !table.says_local(*event)
-            || some_local_fits(set, state, *event, table.local(state, *event))
+        !table.says_local(*event) || some_local_fits(set, state, *event, table.local(state, *event))
     })
 }
 

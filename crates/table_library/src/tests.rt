@@ -247,7 +247,10 @@ fn swaps_are_narrowed(rt: HostRuntime) -> Result<(), Fail> {
     };
     let kept = narrowed.table();
     assert_eq!(rt; kept.version(), 2);
-    assert_eq!(rt; kept.local(State::I, LocalEvent::Swap), [both_ways].as_slice());
+    assert_eq!(rt;
+        kept.local(State::I, LocalEvent::Swap),
+        [both_ways].as_slice()
+    );
     Ok(())
 }
 

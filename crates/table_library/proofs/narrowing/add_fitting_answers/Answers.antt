@@ -29,7 +29,7 @@ loop-answer-preserved c =
           (answers_twice c.args.table.now c.args.state c.args.event)
           (fits_answer c.args.set.now c.args.state c.args.event)
           c.args.answers.now c.loop-answer.answer-index (answer M false false false) c.loop-answer.table
-          c.add_answer_if.new.table c.loop-answer-test.true c.loop-answer.invariant.made 
+          c.add_answer_if.new.table c.loop-answer-test.true c.loop-answer.invariant.made
           (c.in_ok-add_answer_if.ensures
           ∙ ap (λ (b : Bool). with_answers c.loop-answer.table c.args.state c.args.event (cond b (item ∷ []) []))
           c.fits_answer-fits.ensures);

@@ -37,7 +37,7 @@ loop-action-preserved c =
           (locals_twice c.args.table.now c.args.state c.args.event)
           (fits_local c.args.set.now c.args.state c.args.event)
           c.args.actions.now c.loop-action.action-index (silently M) c.loop-action.table c.add_local_if.new.table
-          c.loop-action-test.true c.loop-action.invariant.made 
+          c.loop-action-test.true c.loop-action.invariant.made
           (c.in_ok-add_local_if.ensures
           ∙ ap (λ (b : Bool). with_locals c.loop-action.table c.args.state c.args.event (cond b (item ∷ []) []))
           c.fits_local-fits.ensures);
