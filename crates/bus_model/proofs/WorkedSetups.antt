@@ -271,6 +271,7 @@ starving_fits = well_formed starving refl refl refl refl refl refl refl refl ref
 pub starving_accepted : AllInClass starving
 unfolding faults reached_within
 starving_accepted = All-from_recursion InClass starving.tables (refl, tt)
+
 pub owned_swap_fits : WellFormed owned_swap
 unfolding reached_within
 owned_swap_fits = well_formed owned_swap refl refl refl refl refl refl refl refl refl refl refl refl refl

@@ -205,11 +205,7 @@ pub fn cell_of(version: u8, state: State, word: &[u8]) -> Option<Cell> {
 }
 
 /// Reads the alternatives of a cell. Whether one of them leads to a state other than I.
-fn alternatives<'a>(
-    reader: &mut Reader<'a>,
-    version: u8,
-    cell: Cell,
-) -> Result<bool, Stop<'a>> {
+fn alternatives<'a>(reader: &mut Reader<'a>, version: u8, cell: Cell) -> Result<bool, Stop<'a>> {
     let mut leaves = false;
     let mut first = true;
     for _ in 0..16u32 {

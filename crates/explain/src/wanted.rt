@@ -68,7 +68,9 @@ fn bus_events_of(version: u8) -> &'static [&'static str] {
     if version == 1 {
         return &["rd", "rfo", "inv", "urd", "bwr", "uwr", "ubw", "pas", "flu"];
     }
-    &["rd", "rfo", "inv", "urd", "bwr", "uwr", "ubw", "pas", "flu", "usw"]
+    &[
+        "rd", "rfo", "inv", "urd", "bwr", "uwr", "ubw", "pas", "flu", "usw",
+    ]
 }
 
 fn one_word(text: &'static str) -> &'static [&'static str] {

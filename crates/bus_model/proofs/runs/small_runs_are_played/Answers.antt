@@ -43,6 +43,7 @@ returns-clause-passed_over c = WorkedFair.passed_over_plays
 
 pub returns-clause-starving : goal.returns-clause-starving
 returns-clause-starving c = WorkedFair.starving_plays
+
 pub returns-clause-owned_swap : goal.returns-clause-owned_swap
 returns-clause-owned_swap c = WorkedSwaps.owned_swap_plays
 
