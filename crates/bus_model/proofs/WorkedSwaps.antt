@@ -202,6 +202,10 @@ pub no_new_reply :
     (data_of 2 Usw 0 (Board 1) (taken_by 1) ((2, I) ∷ (1, M) ∷ []) (Some (did (swap 0 8) (Some 8)))) → ⊥
 no_new_reply (t, can) = grind arith
 
+-- Memory and an owner do not take the same.
+takers_differ : with_memory [] ≡ taken_by 1 → ⊥
+takers_differ same = let clash : true ≡ false = ap (λ (t : Takers). t.memory) same in cc
+
 pub memory_does_not_take :
     (reply : Option ℕ)
     → Can owned_swap swapping
@@ -209,6 +213,4 @@ pub memory_does_not_take :
     → ⊥
 memory_does_not_take reply (t, can) =
     let same : connection 2 Usw 0 (Fixed I) (says 1 (answer M false true false) ∷ []) ≡ t = cc in
-    let takers : with_memory [] ≡ taken_by 1 =
-    can.takers ∙ ap (λ (x : Transaction). takers_of x.event x.answers) (sym same) in
-    cc
+    takers_differ (can.takers ∙ ap (λ (x : Transaction). takers_of x.event x.answers) (sym same))
