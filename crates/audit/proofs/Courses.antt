@@ -39,11 +39,11 @@ module _ {X : Type 0} where
 -- What the test of a place says.
 pub among :
     (b n : ℕ) (r : Bool) → r ≡ (nat_le 1 b && nat_le b n) → r ≡ true → (1 ≤ b) × (b ≤ n)
-among b n r is yes =
-    let p = and_parts (nat_le 1 b) (nat_le b n) (sym is ∙ yes) in (leb-true 1 b p.0, leb-true b n p.1)
+among b n r is e =
+    let p = and_parts (nat_le 1 b) (nat_le b n) (sym is ∙ e) in (leb-true 1 b p.0, leb-true b n p.1)
 
 pub not_among :
     (b n : ℕ) (r : Bool) → r ≡ (nat_le 1 b && nat_le b n) → r ≡ false → 1 ≤ b → b ≤ n → ⊥
-not_among b n r is no low high =
+not_among b n r is e low high =
     let there = and_from (nat_le 1 b) (nat_le b n) (le-leb 1 b low) (le-leb b n high) in
     let f : ⊥ = cc in f

@@ -148,7 +148,7 @@ module _ (setup : Setup) (before : List Event) (event : Event) where
             (harmless_coherent (rows_of_line next.rows line) (memory_line next.memory line)
             (latest_line setup.memory (entries_with (entries before) event) line)
             (lowest-no_harm (harm_at setup.memory (entries_with (entries before) event) next) 0 (line_count setup) p.1
-            line (omega arith) low)));
+            line (omega arith) (omega (arith, low)))));
       }
 
   harm_not :

@@ -1,11 +1,11 @@
 //! What is wrong after an event, looked for on the lines that it touched.
 
-ghost use Rattle.std.specs.Prelude.{◌≡◌, ◌+◌, ◌*◌, ◌^◌, ◌<◌, ◌≤◌, ◌∷◌, [], ℕ, List, if◌then◌else◌, length, slice_index};
+ghost use Rattle.std.specs.Prelude.{◌≡◌, ◌+◌, ◌*◌, ◌^◌, ◌<◌, ◌≤◌, ◌∷◌, [], ◌||◌, not, ℕ, List, if◌then◌else◌, length, slice_index};
 ghost use Rattle.flat_memory.specs.Flats.{IsLatest};
 ghost use Rattle.bus_model.specs.Configuration.{is_of_line, rows_of_line};
 ghost use Rattle.bus_model.specs.Entries.{Entry, entries_with, with_entry};
 ghost use Rattle.audit.specs.Parts.{shown, DoneWithin};
-ghost use Rattle.audit.specs.Harms.{line_harm, harm_at, or_later, done_in, reply_harm, first_of_harms};
+ghost use Rattle.audit.specs.Harms.{same_words, line_harm, harm_at, or_later, done_in, reply_harm, first_of_harms};
 ghost use Rattle.audit.specs.Touched.{in_order, harm_within, lowest_touched, touched};
 ghost use Rattle.audit.specs.Seen.{unseen, with_seen, seen_after};
 
@@ -70,6 +70,19 @@ pub fn touched_by(setup: &Setup, parts: &Parts, event: &Event) -> Touched
     }
 }
 
+fn either(a: bool, b: bool) -> bool
+    ensures { result ≡ (a || b) }
+{
+    a || b
+}
+
+/// Whether words are not the latest.
+fn differ(words: [u32; 4], latest: [u32; 4]) -> bool
+    ensures { result ≡ not (same_words words latest) }
+{
+    words != latest
+}
+
 /// What was seen, with one more row.
 fn with_row(seen: Seen, row: &Held, latest: [u32; 4]) -> Seen
     requires owners { seen.owners < 2 ^ 63 }
@@ -78,9 +91,9 @@ fn with_row(seen: Seen, row: &Held, latest: [u32; 4]) -> Seen
 {
     Seen {
         owners: seen.owners + usize::from(row.state.owns()),
-        alone: seen.alone || row.state.alone(),
+        alone: either(seen.alone, row.state.alone()),
         copies: seen.copies + 1,
-        stale: seen.stale || row.words != latest,
+        stale: either(seen.stale, differ(row.words, latest)),
     }
 }
 
@@ -130,7 +143,7 @@ fn line_harm(rows: &[Held], line: LineNo, memory: [u32; 4], latest: [u32; 4]) ->
     if seen.stale {
         return Some(Harm::Words);
     }
-    if seen.owners == 0 && memory != latest {
+    if seen.owners == 0 && differ(memory, latest) {
         return Some(Harm::Memory);
     }
     None

@@ -8,4 +8,4 @@ pub settled-settled-requires-clause-contest : goal.settled-settled-requires-clau
 settled-settled-requires-clause-contest c =
     subst IsContest (sym c.competing-count.ensures.numbers)
     (is_contest c.args.setup.now (arbitration_of c.args.parts.now.arbitration) c.args.parts.now.boards.items c.args.board
-    c.boards.ensures.sound c.requires.boards c.requires.raised)
+    c.boards-boards.ensures.sound c.requires.boards c.requires.raised)

@@ -11,7 +11,7 @@ returns-then-wins c =
     let low = c.loop-place-test.true in
     let long = c.requires in
     let setup_long = ap length c.boards.ensures.boards in
-    sym c.board.view_is
+    c.board.view_is
     ∙ sym (ap (λ o. unwrap_or o 0) (winner-stop
     (does_compete (arbitration_of c.args.parts.now.arbitration) c.args.parts.now.boards.items)
     (λ board. number_of c.args.setup.now board == c.args.number) c.args.parts.now.boards.items c.loop-place.place
