@@ -5,5 +5,5 @@ use Rattle.audit.proofs.effects.state_in.Given as goal
 
 abbrev pub invariant-loop-given : goal.invariant-loop-given
 invariant-loop-given l =
-    find (λ (s : ℕ × State). s.0 == l.board) l.states
-    ≡ find (λ (s : ℕ × State). s.0 == l.board) (drop l.given-index l.states)
+    find (λ (s : ℕ × State). s.0 == l.fn.board) l.states
+    ≡ find (λ (s : ℕ × State). s.0 == l.fn.board) (drop l.given-index l.states)

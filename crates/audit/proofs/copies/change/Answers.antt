@@ -1,4 +1,0 @@
-use Rattle.audit.proofs.copies.change.Goals as goal
-
-pub returns-then-holds : goal.returns-then-holds
-returns-then-holds c = ?

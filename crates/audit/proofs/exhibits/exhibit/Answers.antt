@@ -1,4 +1,0 @@
-use Rattle.audit.proofs.exhibits.exhibit.Goals as goal
-
-pub of-requires : goal.of-requires
-of-requires c = ?
