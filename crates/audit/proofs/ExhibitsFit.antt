@@ -120,7 +120,8 @@ two_fit x other shape first second names fits addresses accesses = record {
       AllPairs-cons (λ (a b : Table). a.name ≢ b.name) x (other ∷ [])
       (All-cons (λ (b : Table). x.name ≢ b.name) other [] (other_name x.name other.name names)
       (All-nil (λ (b : Table). x.name ≢ b.name)))
-      (λ i j d low high. absurd (omega arith));
+      (AllPairs-cons (λ (a b : Table). a.name ≢ b.name) other [] (All-nil (λ (b : Table). other.name ≢ b.name))
+      (λ i j d low high. absurd (omega arith)));
   boards_low = omega arith;
   boards_high = omega arith;
   boards =
@@ -137,7 +138,9 @@ two_fit x other shape first second names fits addresses accesses = record {
       }) (All-nil _));
   numbers =
       AllPairs-cons (λ (a b : BoardSpec). a.number ≢ b.number) _ _
-      (All-cons _ _ _ (λ e. omega arith) (All-nil _)) (λ i j d low high. absurd (omega arith));
+      (All-cons _ _ _ (λ e. omega arith) (All-nil _))
+      (AllPairs-cons (λ (a b : BoardSpec). a.number ≢ b.number) _ [] (All-nil _)
+      (λ i j d low high. absurd (omega arith)));
   scripts = refl;
   addresses = addresses_tested (first ∷ second ∷ []) addresses;
   accesses = leb-true _ 100000 accesses;
@@ -150,21 +153,20 @@ Fits e = WellFormed (setup_of e)
 
 all_fit : AllByRecursion Fits exhibits
 unfolding table_by reached_within
-all_fit = (
-  two_fit _ _ _ _ _ refl refl refl refl,
-  two_fit _ _ _ _ _ refl refl refl refl,
-  two_fit _ _ _ _ _ refl refl refl refl,
-  two_fit _ _ _ _ _ refl refl refl refl,
-  two_fit _ _ _ _ _ refl refl refl refl,
-  two_fit _ _ _ _ _ refl refl refl refl,
-  two_fit _ _ _ _ _ refl refl refl refl,
-  two_fit _ _ _ _ _ refl refl refl refl,
-  two_fit _ _ _ _ _ refl refl refl refl,
-  two_fit _ _ _ _ _ refl refl refl refl,
-  two_fit _ _ _ _ _ refl refl refl refl,
-  two_fit _ _ _ _ _ refl refl refl refl,
-  tt,
-)
+all_fit =
+    (two_fit _ _ _ _ _ refl refl refl refl,
+    (two_fit _ _ _ _ _ refl refl refl refl,
+    (two_fit _ _ _ _ _ refl refl refl refl,
+    (two_fit _ _ _ _ _ refl refl refl refl,
+    (two_fit _ _ _ _ _ refl refl refl refl,
+    (two_fit _ _ _ _ _ refl refl refl refl,
+    (two_fit _ _ _ _ _ refl refl refl refl,
+    (two_fit _ _ _ _ _ refl refl refl refl,
+    (two_fit _ _ _ _ _ refl refl refl refl,
+    (two_fit _ _ _ _ _ refl refl refl refl,
+    (two_fit _ _ _ _ _ refl refl refl refl,
+    (two_fit _ _ _ _ _ refl refl refl refl,
+    tt))))))))))))
 
 at_index :
     {X : Type 0} (P : X → Type 0) (xs : List X) (n : ℕ) (d : X) → AllByRecursion P xs → n < length xs
