@@ -1,5 +1,5 @@
 -- From a run to what `traffic` comes to.
-use Rattle.std.proofs.Common.{◌≡◌, ℕ, ◌++◌, List, [], Option, Some, None, Ok, Err, refl, ap, ◌∙◌, length}
+use Rattle.std.proofs.Common.{◌≡◌, inr, ℕ, ◌++◌, List, [], Option, Some, None, Ok, Err, refl, ap, ◌∙◌, length}
 use Rattle.std.specs.Prelude.{IfSome, IfOk, Result}
 use Rattle.std.specs.Option.{option_map_or}
 use Rattle.std.specs.Result.{result_ok}
@@ -63,7 +63,7 @@ traffic_comes name schedule files A setup turns (Ok a) free read is =
     let command = traffic name schedule in
     answer_comes command.opens command.refusal command.prints files A a free (ap (λ (o : Output). o.status) is)
     (on_some files (λ file r. (setup, r.0, (turns, r.1, ap (λ (o : Output). o.text) is))) read)
-traffic_comes name schedule files A setup turns (Err e) free read is = refl
+traffic_comes name schedule files A setup turns (Err e) free read is = inr (inr refl)
 
 -- A run by the seeded schedule of a number.
 pub seeded_traffic_comes :
@@ -77,4 +77,4 @@ seeded_traffic_comes name seed files A setup (Ok a) free read is =
     let command = traffic_seeded name seed in
     answer_comes command.opens command.refusal command.prints files A a free (ap (λ (o : Output). o.status) is)
     (on_some files (λ file r. (setup, r, ap (λ (o : Output). o.text) is)) read)
-seeded_traffic_comes name seed files A setup (Err e) free read is = refl
+seeded_traffic_comes name seed files A setup (Err e) free read is = inr (inr refl)

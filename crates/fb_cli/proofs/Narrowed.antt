@@ -1,5 +1,5 @@
 -- From the table of a file to what `narrow` comes to.
-use Rattle.std.proofs.Common.{◌≡◌, ℕ, ◌≤◌, ◌++◌, List, [], ◌∷◌, Option, Some, None, Ok, Err, refl, ap, sym, subst, ◌∙◌}
+use Rattle.std.proofs.Common.{◌≡◌, inr, ℕ, ◌≤◌, ◌++◌, List, [], ◌∷◌, Option, Some, None, Ok, Err, refl, ap, sym, subst, ◌∙◌}
 use Rattle.std.specs.Prelude.{IfSome, IfOk, Result, codes, length}
 use Rattle.std.specs.Option.{option_map_or}
 use Rattle.std.specs.Result.{result_ok}
@@ -84,4 +84,4 @@ narrow_comes name files A narrowed (Ok a) free read is =
     (λ file r.
     narrowed_prints (alone_at (unread (file name))) narrowed (answer_output a).text r (ap (λ (o : Output). o.text) is))
     read)
-narrow_comes name files A narrowed (Err e) free read is = refl
+narrow_comes name files A narrowed (Err e) free read is = inr (inr refl)

@@ -22,8 +22,7 @@ use Rattle.fb_cli.specs.Command.{AreSetup}
 use Rattle.fb_cli.specs.Replies.{Comes, Gives, Ready, Stops}
 use Rattle.fb_cli.specs.Check.{check, tables_at}
 use Rattle.fb_cli.specs.Show.{show}
-use Rattle.fb_cli.specs.Run.{AreTurns, run, turns_refusal}
-use Rattle.fb_cli.specs.Race.{race}
+use Rattle.fb_cli.specs.Run.{AreTurns, race, run, turns_refusal}
 use Rattle.fb_cli.specs.Replay.{on_replayed, replay, replay_refusal, trace_refusal}
 use Rattle.fb_cli.proofs.Alike.{if_accepted_is, is_within, with_accepted_is, with_setup_is}
 use Rattle.fb_cli.proofs.Coming.{answer_comes, on_both, on_some, stops_second}

@@ -14,8 +14,7 @@ use crate::helping::say;
 use crate::opening::limit_of;
 use crate::role::Role;
 use crate::rows::{
-    alone_is, file_after, file_and_seed_after, files_after, kind_after, page_after, seed_after,
-    words_after,
+    file_after, file_and_seed_after, files_after, kind_after, page_after, seed_after, text_alone,
 };
 use crate::seen::Seen;
 use crate::{checking, narrowing, replaying, running, showing};
@@ -45,22 +44,10 @@ fn is_fileless(words: &[String]) -> Result<(), Reply>
     if let Some(_) = kind_after("library", words) {
         return Ok(());
     }
-    if let Some(_) = alone_is("help", words) {
-        return Ok(());
-    }
-    if let Some(_) = alone_is("-h", words) {
-        return Ok(());
-    }
-    if let Some(_) = alone_is("--help", words) {
+    if let Some(_) = text_alone(words) {
         return Ok(());
     }
     if let Some(_) = page_after("help", words) {
-        return Ok(());
-    }
-    if let Some(_) = alone_is("version", words) {
-        return Ok(());
-    }
-    if let Some(_) = alone_is("--version", words) {
         return Ok(());
     }
     Err(Reply::Refused(Refusal::NoRow))

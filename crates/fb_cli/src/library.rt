@@ -3,7 +3,7 @@
 ghost use Rattle.std.specs.Prelude.{◌≡◌, None, IfOk};
 ghost use Rattle.table_text.specs.Writing.{written_table};
 ghost use Rattle.table_library.specs.Protocols.{protocol_table};
-ghost use Rattle.fb_cli.specs.Library.{library};
+ghost use Rattle.fb_cli.specs.Fileless.{library};
 ghost use Rattle.fb_cli.specs.Replies.{Comes, answer_output};
 
 use crate::answers::{Answer, Outcome, Reply};

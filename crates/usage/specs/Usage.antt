@@ -79,7 +79,7 @@ pages =
     ∷ record {
       name = codes "traffic";
       words = codes "traffic SETUP SCHEDULE, or traffic SETUP seed NUMBER";
-      does = codes "counts what each board and memory did on the bus in a run";
+      does = codes "counts what crossed the bus in a run";
       example = codes "traffic examples/mixture.setup seed 1";
       statuses = codes "0 1 3 4 5 6 7";
     }

@@ -21,7 +21,7 @@ pub fn help_text() -> &'static str
      tally NUMBER: prints counts over a run of the generated setup of a number\n\
      library NAME: prints the table of a known protocol: cb, up, wt, wb, ex or un\n\
      narrow TABLE: prints the largest part of a table that is in the class\n\
-     traffic SETUP SCHEDULE, or traffic SETUP seed NUMBER: counts what each board and memory did on the bus in a run\n\
+     traffic SETUP SCHEDULE, or traffic SETUP seed NUMBER: counts what crossed the bus in a run\n\
      explain WORDS: says why the command of these words is refused\n\
      help, or help COMMAND: lists the commands, or says what one takes\n\
      version: prints the version, and the kit that proves the program\n\
@@ -96,7 +96,7 @@ pub fn page_named(name: &str) -> Option<&'static str>
              statuses: 0 3 4 5 6 7 9\n",
         ),
         "traffic" => Some(
-            "traffic SETUP SCHEDULE, or traffic SETUP seed NUMBER: counts what each board and memory did on the bus in a run\n\
+            "traffic SETUP SCHEDULE, or traffic SETUP seed NUMBER: counts what crossed the bus in a run\n\
              example: ./futurebus traffic examples/mixture.setup seed 1\n\
              statuses: 0 1 3 4 5 6 7\n",
         ),

@@ -12,7 +12,11 @@ fn tables_are_narrowed(rt: HostRuntime) -> Result<(), Fail> {
             0,
         ),
         ("table x\nI read = I\nend\n", "narrow x: none\n", 9),
-        ("table x\nend\ntable y\nend\n", "fault setup line 3 word\n", 3),
+        (
+            "table x\nend\ntable y\nend\n",
+            "fault setup line 3 word\n",
+            3,
+        ),
         ("memory 1\n", "fault setup line 1 word\n", 3),
     ];
     for (text, wanted, status) in rows {

@@ -19,7 +19,10 @@ fn a_run_is_counted(rt: HostRuntime) -> Result<(), Fail> {
 #[test]
 fn what_run_refuses_is_refused(rt: HostRuntime) -> Result<(), Fail> {
     let (printed, ended) = said(&rt, rt.alloc(), "traffic F S", &[("F", SETUP), ("S", "2")])?;
-    assert_eq!(rt; printed.as_slice(), b"fault schedule line 1 number\n".as_slice());
+    assert_eq!(rt;
+        printed.as_slice(),
+        b"fault schedule line 1 number\n".as_slice()
+    );
     assert_eq!(rt; ended, 3);
     Ok(())
 }

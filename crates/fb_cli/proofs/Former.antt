@@ -1,18 +1,75 @@
--- From what words came to, and how it was printed, to how the call ends.
-use Rattle.std.proofs.Common.{◌≡◌, ◌⊎◌, inl, inr, ℕ, ◌≤◌, ◌<◌, List, [], ◌∷◌, Option, Some, None, refl, sym, ◌∙◌, subst, arith}
+-- The clauses on a call as they were first written, with a field for each status, follow from those that stand now.
+use Rattle.std.proofs.Common.{◌≡◌, ◌⊎◌, inl, inr, ℕ, ◌≤◌, ◌<◌, List, [], ◌∷◌, Option, Some, None, refl, sym, ap, ◌∙◌, subst, arith}
 use Rattle.std.specs.Prelude.{IfSome}
+use Rattle.std.specs.Io.KnownBytes.{Appends}
 use Rattle.std.specs.Option.{option_map_or}
 use Rattle.fb_edge.specs.Outside.{AppendsFront}
-use Rattle.fb_cli.specs.declared.answers.Answer.{Answer}
-use Rattle.fb_cli.specs.declared.answers.Answer.TheVariants.{Said, Ran, Replayed}
+use Rattle.fb_cli.specs.declared.answers.Outcome.{Outcome}
 use Rattle.fb_cli.specs.declared.answers.Outcome.TheVariants as outcomes
 use Rattle.fb_cli.specs.declared.answers.Refusal.TheVariants.{NoRow, Unread, NoMemory}
-use Rattle.fb_cli.specs.declared.answers.Reply.{Reply}
-use Rattle.fb_cli.specs.declared.answers.Reply.TheVariants.{Answered, Refused, Explained}
 use Rattle.fb_cli.specs.declared.role.Role.{Role}
-use Rattle.fb_cli.specs.Output.{Output, Files, refusal_output}
-use Rattle.fb_cli.specs.Command.{File, Command, Found, none, found, Answers, Asked, Does, Due, Follows, IsAnswer, IsUnread, Written, known, status_on}
-use Rattle.fb_cli.specs.Replies.{Comes, ComesTo, answer_output, reply_output}
+use Rattle.fb_cli.specs.Output.{Output, Files, refusal_output, status_of}
+use Rattle.fb_cli.specs.Command.{File, Command, Found, none, found, Asked, Does, Ends, Follows, IsTold, IsUnread, Written, known}
+
+-- The status of a command on these files.
+abbrev status_on : Command → Files → ℕ
+status_on command bytes_of = option_map_or (λ (o : Output). o.status) (command.refusal bytes_of) 0
+
+-- It is an answer of the command, as far as the files are known.
+abbrev Answers : Command → Option Files → Output → Type 0
+Answers command files o =
+    IfSome (known command.opens files)
+    (λ bytes_of. Follows command.tells (command.prints bytes_of) (command.refusal bytes_of) o)
+
+-- An answer of the command has this status, and its text was taken.
+abbrev Taken : Command → Option Files → Option (List ℕ) → Option (List ℕ) → ℕ → Type 0
+Taken command files before after status =
+    (o : Output) × Answers command files o × (o.status ≡ status) × Appends before after o.text
+
+-- A text that a command may print: that of an answer, of a file that was not read, or of want of
+-- memory.
+abbrev Due : Command → Option Files → Type 0 → List ℕ → Type 0
+Due command files shelf_rose text =
+    ((o : Output) × Answers command files o × (text ≡ o.text))
+    ⊎ (((role : Role) × IsUnread command.opens files shelf_rose role
+    × command.tells (refusal_output (Unread role)).text text)
+    ⊎ (text ≡ (refusal_output NoMemory).text))
+
+-- How a call that does a command ends: each status comes only where its field says. `before` and
+-- `after` are what the sink took.
+record FormerAnswers (command : Command) (files : Option Files) (shelf_rose sink_rose : Type 0)
+    (before after : Option (List ℕ)) (status : ℕ) : Type 0 where
+  done : status ≡ 0 → Taken command files before after 0
+  refused : status ≡ 1 → Taken command files before after 1
+  matched : status ≡ 2 → ⊥
+  malformed : status ≡ 3 → Taken command files before after 3
+  unread :
+      status ≡ 4
+      → (role : Role) × IsUnread command.opens files shelf_rose role
+      × ((text : List ℕ) × command.tells (refusal_output (Unread role)).text text
+      × Appends before after text)
+  unwritten :
+      status ≡ 5
+      → sink_rose
+      × ((text : List ℕ) × Due command files shelf_rose text × AppendsFront before after text)
+  no_memory : status ≡ 6 → Appends before after (refusal_output NoMemory).text
+  too_long : status ≡ 7 → Taken command files before after 7
+  none_left : status ≡ 9 → Taken command files before after 9
+  no_other : (status ≤ 7) ⊎ (status ≡ 9)
+  -- and it comes there, unless a count rose or memory ran out
+  exact :
+      IfSome (known command.opens files)
+      (λ bytes_of.
+      (shelf_rose → ⊥) → (sink_rose → ⊥) → (status ≡ status_on command bytes_of) ⊎ (status ≡ 6))
+
+-- How a call ended that does what words ask for.
+abbrev pub FormerDoes :
+    Found → Option Files → Type 0 → Type 0 → Option (List ℕ) → Option (List ℕ) → ℕ → Type 0
+FormerDoes (none Tells) files shelf_rose sink_rose before after status =
+    (text : List ℕ) × Tells (refusal_output NoRow).text text
+    × Written (record { status = 2; text = text }) sink_rose before after status
+FormerDoes (found command) files shelf_rose sink_rose before after status =
+    FormerAnswers command files shelf_rose sink_rose before after status
 
 -- The statuses of answers: 0, 1, 3, 7 and 9.
 record IsOutcome (status : ℕ) : Type 0 where
@@ -20,21 +77,17 @@ record IsOutcome (status : ℕ) : Type 0 where
   not_2 : status ≡ 2 → ⊥
   not_4_to_6 : 3 < status → 6 < status
 
-is_outcome : (a : Answer) → IsOutcome (answer_output a).status
-is_outcome (Said outcomes.Done text) =
+is_outcome : (o : Outcome) → IsOutcome (status_of o)
+is_outcome outcomes.Done =
     record { most = inl (omega arith); not_2 = λ two. omega (arith, two); not_4_to_6 = λ high. omega (arith, high) }
-is_outcome (Said outcomes.Refused text) =
+is_outcome outcomes.Refused =
     record { most = inl (omega arith); not_2 = λ two. omega (arith, two); not_4_to_6 = λ high. omega (arith, high) }
-is_outcome (Said outcomes.Malformed text) =
+is_outcome outcomes.Malformed =
     record { most = inl (omega arith); not_2 = λ two. omega (arith, two); not_4_to_6 = λ high. omega (arith, high) }
-is_outcome (Said outcomes.TooLong text) =
+is_outcome outcomes.TooLong =
     record { most = inl (omega arith); not_2 = λ two. omega (arith, two); not_4_to_6 = λ high. omega (arith, high) }
-is_outcome (Said outcomes.NothingLeft text) =
+is_outcome outcomes.NothingLeft =
     record { most = inr refl; not_2 = λ two. omega (arith, two); not_4_to_6 = λ high. omega (arith, high) }
-is_outcome (Ran machine room) =
-    record { most = inl (omega arith); not_2 = λ two. omega (arith, two); not_4_to_6 = λ high. omega (arith, high) }
-is_outcome (Replayed machine room) =
-    record { most = inl (omega arith); not_2 = λ two. omega (arith, two); not_4_to_6 = λ high. omega (arith, high) }
 
 -- The status of a command, or want of memory, unless a count rose.
 abbrev Exact : Command → Option Files → Type 0 → Type 0 → ℕ → Type 0
@@ -50,7 +103,8 @@ settled Tells Prints (Some refusal) o follows = follows.0
 
 as_known :
     (command : Command) (k : Option Files) (A B : Type 0) (o : Output) (status : ℕ)
-    → IfSome k (λ bytes_of. IsAnswer command bytes_of o) → status ≡ o.status → Exact command k A B status
+    → IfSome k (λ bytes_of. Follows command.tells (command.prints bytes_of) (command.refusal bytes_of) o)
+    → status ≡ o.status → Exact command k A B status
 as_known command None A B o status asked is = tt
 as_known command (Some bytes_of) A B o status asked is =
     λ _ _. inl (is ∙ settled command.tells (command.prints bytes_of) (command.refusal bytes_of) o asked)
@@ -79,7 +133,7 @@ cut_short :
     (command : Command) (files : Option Files) (A B : Type 0) (before after : Option (List ℕ)) (text : List ℕ)
     (status : ℕ)
     → Due command files A text → status ≡ 5 → B → AppendsFront before after text
-    → Answers command files A B before after status
+    → FormerAnswers command files A B before after status
 cut_short command files A B before after text status due is rose front = record {
   done = λ s. absurd (omega arith);
   refused = λ s. absurd (omega arith);
@@ -97,8 +151,8 @@ cut_short command files A B before after text status due is rose front = record 
 -- An answer was printed.
 was_said :
     (command : Command) (files : Option Files) (A B : Type 0) (before after : Option (List ℕ)) (o : Output) (status : ℕ)
-    → Asked command files o → IsOutcome o.status → Written o B before after status
-    → Answers command files A B before after status
+    → Answers command files o → IsOutcome o.status → Written o B before after status
+    → FormerAnswers command files A B before after status
 was_said command files A B before after o status asked outcome (inr (is, rose, front)) =
     cut_short command files A B before after o.text status (inl (o, asked, refl)) is rose front
 was_said command files A B before after o status asked outcome (inl (is, taken)) = record {
@@ -121,7 +175,7 @@ was_unread :
     (text : List ℕ) (status : ℕ)
     → IsUnread command.opens files A role → command.tells (refusal_output (Unread role)).text text
     → Written (record { status = 4; text = text }) B before after status
-    → Answers command files A B before after status
+    → FormerAnswers command files A B before after status
 was_unread command files A B before after role text status unread told (inr (is, rose, front)) =
     cut_short command files A B before after text status (inr (inl (role, unread, told))) is rose front
 was_unread command files A B before after role text status unread told (inl (is, taken)) = record {
@@ -140,7 +194,7 @@ was_unread command files A B before after role text status unread told (inl (is,
 
 -- Memory ran out.
 had_no_memory : (command : Command) (files : Option Files) (A B : Type 0) (before after : Option (List ℕ)) (status : ℕ)
-    → Written (refusal_output NoMemory) B before after status → Answers command files A B before after status
+    → Written (refusal_output NoMemory) B before after status → FormerAnswers command files A B before after status
 had_no_memory command files A B before after status (inr (is, rose, front)) =
     cut_short command files A B before after _ status (inr (inr refl)) is rose front
 had_no_memory command files A B before after status (inl (is, taken)) = record {
@@ -157,36 +211,28 @@ had_no_memory command files A B before after status (inl (is, taken)) = record {
   exact = no_memory_left command (known command.opens files) A B status is;
 }
 
--- What a command came to was printed.
+-- An output of a command was written.
 answers :
-    (command : Command) (files : Option Files) (A B : Type 0) (before after : Option (List ℕ)) (reply : Reply)
-    (status : ℕ)
-    → Comes command files A reply → Written (reply_output reply) B before after status
-    → Answers command files A B before after status
-answers command files A B before after (Answered a) status asked written =
-    was_said command files A B before after (answer_output a) status asked (is_outcome a) written
-answers command files A B before after (Refused NoRow) status gives written = absurd gives
-answers command files A B before after (Refused (Unread role)) status (unread, told) written =
-    was_unread command files A B before after role (refusal_output (Unread role)).text status unread told written
-answers command files A B before after (Refused NoMemory) status gives written =
-    had_no_memory command files A B before after status written
-answers command files A B before after (Explained NoRow text) status gives written = absurd gives
-answers command files A B before after (Explained (Unread role) text) status (unread, told) written =
-    was_unread command files A B before after role text.bytes status unread told written
-answers command files A B before after (Explained NoMemory text) status is written =
+    (command : Command) (files : Option Files) (A B : Type 0) (before after : Option (List ℕ)) (o : Output) (status : ℕ)
+    → Ends command files A o → Written o B before after status
+    → FormerAnswers command files A B before after status
+answers command files A B before after o status (inl ((outcome, is), asked)) written =
+    was_said command files A B before after o status asked (subst IsOutcome (sym is) (is_outcome outcome)) written
+answers command files A B before after o status (inr (inl (role, unread, (is, told)))) written =
+    was_unread command files A B before after role o.text status unread told
+    (subst (λ (p : Output). Written p B before after status) (λ i. record { status = is i; text = o.text }) written)
+answers command files A B before after o status (inr (inr is)) written =
     had_no_memory command files A B before after status
-    (subst (λ (t : List ℕ). Written (record { status = 6; text = t }) B before after status) is written)
+    (subst (λ (p : Output). Written p B before after status) is written)
 
--- What words came to was printed.
-pub does :
-    (asked : Found) (files : Option Files) (A B : Type 0) (before after : Option (List ℕ)) (reply : Reply) (status : ℕ)
-    → ComesTo asked files A reply → Written (reply_output reply) B before after status
-    → Does asked files A B before after status
-does (none Tells) files A B before after reply status (is, told) written =
-    let o = reply_output reply in (
-      o.text,
-      told,
-      subst (λ (p : Output). Written p B before after status) (λ i. record { status = is i; text = o.text }) written,
-    )
-does (found command) files A B before after reply status comes written =
-    answers command files A B before after reply status comes written
+-- What words ask for was done.
+pub former :
+    (asked : Found) (files : Option Files) (A B : Type 0) (before after : Option (List ℕ)) (status : ℕ)
+    → Does asked files A B before after status → FormerDoes asked files A B before after status
+former (none Tells) files A B before after status (o, (is, told), written) = (
+  o.text,
+  told,
+  subst (λ (p : Output). Written p B before after status) (λ i. record { status = is i; text = o.text }) written,
+)
+former (found command) files A B before after status (o, ends, written) =
+    answers command files A B before after o status ends written
