@@ -69,7 +69,8 @@ passed_over_plays =
                 (
                   (
                     read 0,
-                    record { present = refl; not_raised = refl; not_granted = refl; not_connected = refl; needs = refl },
+                    record { present = refl; not_raised = refl; not_granted = refl;
+                      not_connected = refl; needs = refl },
                   ),
                   (
                     record {
@@ -226,7 +227,8 @@ starving_plays =
                 (
                   (
                     read 0,
-                    record { present = refl; not_raised = refl; not_granted = refl; not_connected = refl; needs = refl },
+                    record { present = refl; not_raised = refl; not_granted = refl;
+                      not_connected = refl; needs = refl },
                   ),
                   (
                     record {

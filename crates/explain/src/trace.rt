@@ -90,8 +90,8 @@ fn form(word: &[u8]) -> &'static str {
         b"drop" => "drop B line L from STATE",
         b"raise" => "raise B",
         b"grant" => "grant B to B lines N rounds R",
-        b"connect" =>
-            "connect B EVENT line L to RESULT answers ANSWERS (none, or as 1=O+CH+DI 3=S+SL: boards in order, signals in the order CH DI SL)",
+        b"connect" => "connect B EVENT line L to RESULT answers ANSWERS \
+             (none, or as 1=O+CH+DI 3=S+SL: boards in order, signals in the order CH DI SL)",
         b"data" => "data B EVENT line L from SOURCE into TAKERS states STATES done DONE",
         _ => "a line that begins with local, drop, raise, grant, connect or data, or the line end",
     }

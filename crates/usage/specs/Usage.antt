@@ -10,9 +10,9 @@ pub record Page : Type 0 where
   pub example : List ℕ
   pub statuses : List ℕ
 
--- The commands.
-abbrev pub pages : List Page
-pages =
+-- The commands that take a file.
+abbrev pub file_pages : List Page
+file_pages =
     record {
       name = codes "check";
       words = codes "check FILE";
@@ -48,7 +48,12 @@ pages =
       example = codes "race examples/tour.setup";
       statuses = codes "0 1 3 4 5 6 7";
     }
-    ∷ record {
+    ∷ []
+
+-- The other commands.
+abbrev pub other_pages : List Page
+other_pages =
+    record {
       name = codes "make";
       words = codes "make NUMBER";
       does = codes "prints the generated setup of a number";
@@ -105,6 +110,10 @@ pages =
       statuses = codes "0 5 6";
     }
     ∷ []
+
+-- The commands.
+abbrev pub pages : List Page
+pages = file_pages ++ other_pages
 
 -- The statuses, and what they mean.
 abbrev pub statuses : List (List ℕ)

@@ -3,7 +3,7 @@
 #![tactic(auto)]
 
 ghost use Rattle.std.specs.Prelude.{◌≡◌, option_map};
-ghost use Rattle.usage.specs.Usage.{help_text, page_named, pages, version_text};
+ghost use Rattle.usage.specs.Usage.{help_text, other_pages, page_named, pages, version_text};
 
 #[cfg(test)]
 mod tests;
@@ -14,7 +14,8 @@ pub fn help_text() -> &'static str
 {
     "check FILE: judges each table of a text of tables or of a setup\n\
      show SETUP: prints the written spelling of a setup\n\
-     run SETUP SCHEDULE, or run SETUP seed NUMBER: prints the run of a setup by a schedule, or by drawn turns\n\
+     run SETUP SCHEDULE, or run SETUP seed NUMBER: \
+     prints the run of a setup by a schedule, or by drawn turns\n\
      replay SETUP TRACE: prints the ending of the run that a trace tells\n\
      race SETUP: prints a run of a setup in which each board has a thread\n\
      make NUMBER: prints the generated setup of a number\n\
@@ -61,7 +62,8 @@ pub fn page_named(name: &str) -> Option<&'static str>
              statuses: 0 3 4 5 6 7\n",
         ),
         "run" => Some(
-            "run SETUP SCHEDULE, or run SETUP seed NUMBER: prints the run of a setup by a schedule, or by drawn turns\n\
+            "run SETUP SCHEDULE, or run SETUP seed NUMBER: \
+             prints the run of a setup by a schedule, or by drawn turns\n\
              example: ./futurebus run examples/tour.setup seed 1\n\
              statuses: 0 1 3 4 5 6 7\n",
         ),
@@ -75,6 +77,15 @@ pub fn page_named(name: &str) -> Option<&'static str>
              example: ./futurebus race examples/tour.setup\n\
              statuses: 0 1 3 4 5 6 7\n",
         ),
+        _ => other_page_named(name),
+    }
+}
+
+/// The same of a command that takes no file.
+fn other_page_named(name: &str) -> Option<&'static str>
+    ensures { option_map (λ text. text.now) result ≡ page_named name.now other_pages }
+{
+    match name {
         "make" => Some(
             "make NUMBER: prints the generated setup of a number\n\
              example: ./futurebus make 1\n\
