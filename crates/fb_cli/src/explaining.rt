@@ -19,8 +19,8 @@ use crate::rows::{
 use crate::seen::Seen;
 use crate::{checking, narrowing, replaying, running, showing};
 use explain::{
-    explain_length, explain_schedule, explain_setup, explain_tables, explain_trace, explain_unread,
-    explain_words,
+    explain_alone, explain_length, explain_schedule, explain_setup, explain_tables, explain_trace,
+    explain_unread, explain_words,
 };
 use fb_edge::Shelf;
 use fb_text::Text;
@@ -115,6 +115,14 @@ fn name_of(words: &[String], role: Role) -> &str {
     }
 }
 
+/// Whether a word is the first one.
+fn begin_with(words: &[String], name: &str) -> bool {
+    match words.first() {
+        Some(word) => word.as_str() == name,
+        None => false,
+    }
+}
+
 /// Appends why a setup or a text of tables is refused.
 fn explain_first(
     alloc: Global,
@@ -124,11 +132,10 @@ fn explain_first(
 ) -> Result<(), NoMemory>
     ensures { Extends text.old.bytes text.new.bytes }
 {
-    let checks = match words.first() {
-        Some(word) => word.as_str() == "check",
-        None => false,
-    };
-    if checks && bytes.len() < 2_147_483_648 && is_book(bytes) {
+    if begin_with(words, "narrow") {
+        return explain_alone(alloc, bytes, text);
+    }
+    if begin_with(words, "check") && bytes.len() < 2_147_483_648 && is_book(bytes) {
         return explain_tables(alloc, bytes, text);
     }
     explain_setup(alloc, bytes, text)

@@ -48,6 +48,20 @@ file_pages =
       example = codes "race examples/tour.setup";
       statuses = codes "0 1 3 4 5 6 7";
     }
+    ∷ record {
+      name = codes "narrow";
+      words = codes "narrow TABLE";
+      does = codes "prints the largest part of a table that is in the class";
+      example = codes "narrow examples/half-exclusive.table";
+      statuses = codes "0 3 4 5 6 7 9";
+    }
+    ∷ record {
+      name = codes "traffic";
+      words = codes "traffic SETUP SCHEDULE, or traffic SETUP seed NUMBER";
+      does = codes "counts what crossed the bus in a run";
+      example = codes "traffic examples/mixture.setup seed 1";
+      statuses = codes "0 1 3 4 5 6 7";
+    }
     ∷ []
 
 -- The other commands.
@@ -73,20 +87,6 @@ other_pages =
       does = codes "prints the table of a known protocol: cb, up, wt, wb, ex or un";
       example = codes "library cb";
       statuses = codes "0 5 6";
-    }
-    ∷ record {
-      name = codes "narrow";
-      words = codes "narrow TABLE";
-      does = codes "prints the largest part of a table that is in the class";
-      example = codes "narrow examples/silent-sharer.table";
-      statuses = codes "0 3 4 5 6 7 9";
-    }
-    ∷ record {
-      name = codes "traffic";
-      words = codes "traffic SETUP SCHEDULE, or traffic SETUP seed NUMBER";
-      does = codes "counts what crossed the bus in a run";
-      example = codes "traffic examples/mixture.setup seed 1";
-      statuses = codes "0 1 3 4 5 6 7";
     }
     ∷ record {
       name = codes "explain";
