@@ -64,18 +64,25 @@ pub fn tables_reason(alloc: Global, bytes: &[u8]) -> Result<Text, NoMemory> {
     explanation(alloc, read_tables(alloc, bytes))
 }
 
+/// That a table begins where nothing is to stand.
+fn another_table(alloc: Global, line: u32) -> Result<Text, NoMemory> {
+    let mut text = Text::new(alloc);
+    counted(
+        &mut text,
+        "Line ",
+        u64::from(line),
+        " begins another table, and one is wanted.\n",
+    )?;
+    Ok(text)
+}
+
 /// Why a text is not one table, or why its table is refused. It is empty where it is not.
 pub fn alone_reason(alloc: Global, bytes: &[u8]) -> Result<Text, NoMemory> {
-    if is_short(bytes) && read_book(alloc, bytes).is_ok() {
-        if let Err(SetupFault::Bad { line, .. }) = read_table_alone(alloc, bytes) {
-            let mut text = Text::new(alloc);
-            counted(
-                &mut text,
-                "Line ",
-                u64::from(line),
-                " begins another table, and one is wanted.\n",
-            )?;
-            return Ok(text);
+    if is_short(bytes) {
+        if let Ok(_) = read_book(alloc, bytes) {
+            if let Err(SetupFault::Bad { line, .. }) = read_table_alone(alloc, bytes) {
+                return another_table(alloc, line);
+            }
         }
     }
     tables_reason(alloc, bytes)
