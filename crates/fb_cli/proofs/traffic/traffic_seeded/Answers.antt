@@ -9,8 +9,8 @@ returns-in-Ok g c =
     (seeded_traffic_comes c.args.name.now c.args.seed (g.F.Shelf.file c.args.shelf.now) _ c.in-Ok.setup
     c.count_seeded.result c.in-Ok.ensures.ready c.in-Ok.ensures.setup c.count_seeded.ensures)
 
-pub returns-in-Err : goal.returns-in-Err
-returns-in-Err g c =
+pub returns : goal.returns
+returns g c =
     let command = traffic_seeded c.args.name.now c.args.seed in
     stops_come command.opens command.refusal command.prints (g.F.Shelf.file c.args.shelf.now) _ c.in-Err.reply
     c.in-Err.ensures.ready
