@@ -90,11 +90,7 @@ fn add_answers<C: Cells>(cells: &C, table: &mut Table, state: State) -> Result<(
 
 /// The table of this name with these cells.
 #[tactic(auto, using(crate::proofs::Filled::filled_empty))]
-pub fn filled_table<C: Cells>(
-    alloc: Global,
-    name: Name,
-    cells: &C,
-) -> Result<Table, NoMemory>
+pub fn filled_table<C: Cells>(alloc: Global, name: Name, cells: &C) -> Result<Table, NoMemory>
     ensures { IfOk result (λ table. table
         ≡ table_by name (C.locals cells.now) (C.answers cells.now)) }
 {
