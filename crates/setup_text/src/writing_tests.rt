@@ -1,4 +1,4 @@
-//! Setups that are read and written again.
+//! A setup that is read and written again.
 
 use super::*;
 use fb_text::Text;
@@ -23,6 +23,7 @@ fn shown(alloc: Global, text: &str) -> Result<Text, Fail> {
 
 #[test]
 fn setups_are_written(rt: HostRuntime) -> Result<(), Fail> {
+<<<<<<< HEAD
     let rows = [
         (
             "# one board\nmemory 1\nword 3 9\ntable un   # no cache\nI write = I uwr\n\
@@ -64,5 +65,18 @@ fn setups_are_written(rt: HostRuntime) -> Result<(), Fail> {
         let written = shown(rt.alloc(), text)?;
         assert_eq!(rt; written.bytes(), wanted.as_bytes(), "{text}");
     }
+=======
+    let written = shown(
+        rt.alloc(),
+        "memory 1 #\narbiter fair\nword 0 9\nword 1 0\ntable b\nend\n\
+         board 1 number 5 table b plain choose first\n read 3\nend",
+    )?;
+    assert_eq!(rt;
+        written.bytes(),
+        b"memory 1\narbiter fair\nword 0 9\ntable b\nend\n\
+          board 1 number 5 table b plain choose first\nread 3\nend\n"
+            .as_slice()
+    );
+>>>>>>> 0b0a4c89ed0d9bd22d56a7c1997b891d8206999e
     Ok(())
 }

@@ -29,6 +29,7 @@ fn same(a: &Table, b: &Table) -> bool {
     true
 }
 
+<<<<<<< HEAD
 /// An alternative for a local cell.
 type Change = (State, LocalEvent, LocalAction);
 
@@ -82,6 +83,17 @@ fn in_states(
             }
             for action in table.said_local(*state, event) {
                 push_local(&mut part, *state, event, *action)?;
+=======
+/// The cells of a table in some of its states.
+fn in_states(alloc: Global, table: &Table, states: &[State]) -> Result<Table, Fail> {
+    let mut part = Table::empty(alloc, table.name());
+    for state in states {
+        for event in LOCAL_EVENTS {
+            for action in table.local(*state, event) {
+                if part.push_local(*state, event, *action).is_err() {
+                    return Err("memory".into());
+                }
+>>>>>>> 0b0a4c89ed0d9bd22d56a7c1997b891d8206999e
             }
         }
         for event in BUS_EVENTS {
@@ -93,39 +105,17 @@ fn in_states(
     Ok(part)
 }
 
-/// An alternative that goes to a state by a transaction.
-fn by(state: State, event: BusEvent) -> LocalAction {
-    LocalAction {
-        result: Outcome::Fixed(state),
-        bus: Some(event),
-    }
-}
-
 #[test]
 fn names_are_those_of_the_tables(rt: HostRuntime) -> Result<(), Fail> {
-    let names = [
-        (Kind::Invalidate, "cb"),
-        (Kind::Update, "up"),
-        (Kind::Through, "wt"),
-        (Kind::ThroughBroadcast, "wb"),
-        (Kind::Exclusive, "ex"),
-        (Kind::Uncached, "un"),
-    ];
-    for (kind, name) in names {
-        assert_eq!(rt; kind.name(), name);
-        assert_eq!(rt; kind_of(name.as_bytes()), Some(kind));
+    for kind in KINDS {
+        assert_eq!(rt; kind_of(kind.name().as_bytes()), Some(kind));
         let Ok(accepted) = library(rt.alloc(), kind) else {
             return Err("memory".into());
         };
-        assert_eq!(rt; accepted.table().name().bytes(), name.as_bytes());
-        let Ok(Some(narrowed)) = narrow(rt.alloc(), accepted.table()) else {
-            return Err("none".into());
-        };
-        assert!(rt; same(narrowed.table(), accepted.table()));
+        assert_eq!(rt; accepted.table().name().bytes(), kind.name().as_bytes());
     }
-    for name in ["class", "", "cbx", "CB"] {
-        assert_eq!(rt; kind_of(name.as_bytes()), None);
-    }
+    assert_eq!(rt; Kind::Invalidate.name(), "cb");
+    assert_eq!(rt; kind_of(b"CB"), None);
     Ok(())
 }
 
@@ -153,37 +143,6 @@ fn what_leads_out_goes(rt: HostRuntime) -> Result<(), Fail> {
     Ok(())
 }
 
-#[test]
-fn what_is_not_reached_goes(rt: HostRuntime) -> Result<(), Fail> {
-    let Ok(uncached) = library(rt.alloc(), Kind::Uncached) else {
-        return Err("memory".into());
-    };
-    let Ok(cached) = library(rt.alloc(), Kind::Invalidate) else {
-        return Err("memory".into());
-    };
-    let changes = [
-        (State::I, LocalEvent::Read, by(State::I, BusEvent::Urd)),
-        (State::I, LocalEvent::Write, by(State::I, BusEvent::Uwr)),
-    ];
-    let wide = in_states(rt.alloc(), cached.table(), &STATES, &changes)?;
-    let Ok(Some(narrowed)) = narrow(rt.alloc(), &wide) else {
-        return Err("none".into());
-    };
-    assert!(rt;
-        narrowed
-            .table()
-            .local(State::M, LocalEvent::Read)
-            .is_empty()
-    );
-    for event in LOCAL_EVENTS {
-        assert_eq!(rt;
-            narrowed.table().local(State::I, event),
-            uncached.table().local(State::I, event)
-        );
-    }
-    Ok(())
-}
-
 /// Without O a copy-back table has nothing in the class, since its writes lead to M, which answers
 /// `rd` by O.
 #[test]
@@ -192,11 +151,12 @@ fn nothing_may_be_left(rt: HostRuntime) -> Result<(), Fail> {
         return Err("memory".into());
     };
     let states = [State::M, State::E, State::S, State::I];
-    let without_owned = in_states(rt.alloc(), cached.table(), &states, &[])?;
+    let without_owned = in_states(rt.alloc(), cached.table(), &states)?;
     assert!(rt; matches!(narrow(rt.alloc(), &without_owned), Ok(None)));
     Ok(())
 }
 
+<<<<<<< HEAD
 /// Each round leaves out one state: E, which has no cells, then M, O, S, and finally I.
 #[test]
 fn states_may_go_one_by_one(rt: HostRuntime) -> Result<(), Fail> {
@@ -254,6 +214,8 @@ fn swaps_are_narrowed(rt: HostRuntime) -> Result<(), Fail> {
     Ok(())
 }
 
+=======
+>>>>>>> 0b0a4c89ed0d9bd22d56a7c1997b891d8206999e
 fn connect(master: u8, event: BusEvent) -> Event {
     Event::Connect(Connected {
         master: BoardNo(master),
@@ -283,15 +245,9 @@ fn nobody() -> Takers {
     }
 }
 
-/// Two boards on one line: the first fetches it, the second reads it from the first, writes a word
-/// for both, and invalidates the other copy.
-fn small_journal() -> [Event; 9] {
-    let mut boards = Places::new();
-    boards.push(BoardNo(1));
-    let both = Takers {
-        memory: true,
-        boards,
-    };
+/// Two boards on one line: the first fetches it, and the second reads it from the first, and then a
+/// word of its own copy.
+fn small_journal() -> [Event; 5] {
     [
         connect(1, BusEvent::Rfo),
         data(1, BusEvent::Rfo, Source::Memory, nobody()),
@@ -306,10 +262,6 @@ fn small_journal() -> [Event; 9] {
                 reply: Some(5),
             },
         },
-        connect(2, BusEvent::Bwr),
-        data(2, BusEvent::Bwr, Source::Nobody, both),
-        connect(2, BusEvent::Inv),
-        data(2, BusEvent::Inv, Source::Nobody, nobody()),
     ]
 }
 
@@ -317,37 +269,20 @@ fn small_journal() -> [Event; 9] {
 fn a_small_journal_is_counted(rt: HostRuntime) -> Result<(), Fail> {
     let journal = small_journal();
     let report = traffic(&journal);
-    let first = Counts {
+    let second = Counts {
         connects: 1,
         words: 4,
-        local: 0,
-        served: 1,
-        took: 1,
-    };
-    let second = Counts {
-        connects: 3,
-        words: 5,
         local: 1,
         served: 0,
         took: 0,
     };
-    let none = Counts {
-        connects: 0,
-        words: 0,
-        local: 0,
-        served: 0,
-        took: 0,
-    };
-    assert_eq!(rt; report.board(BoardNo(1)), first);
     assert_eq!(rt; report.board(BoardNo(2)), second);
-    assert_eq!(rt; report.board(BoardNo(16)), none);
-    assert_eq!(rt; report.memory(), (1, 1));
+    assert_eq!(rt; report.memory(), (1, 0));
     let mut text = Text::new(rt.alloc());
     text.reserve(4096)?;
-    write_traffic(&journal, 2, &mut text);
-    let lines = "traffic 1 connects 1 words 4 local 0 served 1 took 1\n\
-                 traffic 2 connects 3 words 5 local 1 served 0 took 0\n\
-                 traffic memory served 1 took 1\n";
+    write_traffic(&journal, 1, &mut text);
+    let lines = "traffic 1 connects 1 words 4 local 0 served 1 took 0\n\
+                 traffic memory served 1 took 0\n";
     assert_eq!(rt; text.bytes(), lines.as_bytes());
     Ok(())
 }
