@@ -35,14 +35,16 @@ fn a_served_board_is_passed_over(rt: HostRuntime) -> Result<(), Fail> {
     requests.raise(BoardNo(1));
     requests.raise(BoardNo(2));
     requests.raise(BoardNo(3));
+    assert!(rt; !requests.served(BoardNo(1)));
     for (winner, lines, rounds) in [(1, 640, 3), (2, 576, 2), (3, 511, 0), (1, 640, 3)] {
         let grant = requests.grant().ok_or("nobody competes")?;
         assert_eq!(rt; grant.winner, BoardNo(winner));
         assert_eq!(rt; grant.settled.lines, lines);
         assert_eq!(rt; grant.settled.rounds, rounds);
+        assert!(rt; requests.served(grant.winner));
         requests.raise(grant.winner);
     }
-    assert!(rt; requests.served(BoardNo(1)));
-    assert!(rt; !requests.served(BoardNo(2)));
+    let next = requests.contest().ok_or("nobody competes")?;
+    assert_eq!(rt; next.winner, BoardNo(2));
     Ok(())
 }

@@ -4,6 +4,7 @@ use Rattle.std.proofs.Common.{◌≡◌, ℕ, zero, suc, ◌+◌, ◌-◌, ◌�
 use Rattle.std.specs.Prelude.{slice_get, unwrap_or, filter, find, nat_lt, not, ◌&&◌, ◌||◌, ◌==◌}
 use Rattle.std.specs.List.{list_any}
 use Rattle.std.proofs.lemmas.Bool.{and_parts, both_ways}
+use Rattle.std.proofs.lemmas.Bool.Decides.{nat_tests}
 use Rattle.std.proofs.lemmas.List.{length-map}
 use Rattle.bus_model.specs.Places.{places_from}
 use Rattle.bus_model.specs.Setup.{Setup, BoardSpec, number_of}
@@ -140,6 +141,9 @@ waiting-at (r ∷ raised) (s ∷ served) (suc j) h k =
     let within = rest.0 in
     (omega (arith, within), rest.1)
 
+positive : (n : ℕ) → nat_lt 0 (suc n) ≡ true
+positive n = grind (arith, nat_tests)
+
 some-passes : {X : Type 0} (p : X → Bool) (xs : List X) → nat_lt 0 (length (filter p xs)) ≡ list_any p xs
 some-passes p [] = refl
 some-passes p (x ∷ xs) = go (p x) (some-passes p xs)
@@ -147,7 +151,7 @@ some-passes p (x ∷ xs) = go (p x) (some-passes p xs)
     go :
         (b : Bool) → nat_lt 0 (length (filter p xs)) ≡ list_any p xs
         → nat_lt 0 (length (cond b (x ∷ filter p xs) (filter p xs))) ≡ (b || list_any p xs)
-    go true rest = refl
+    go true rest = positive (length (filter p xs))
     go false rest = rest
 
 module _ (setup : Setup) (c : Configuration) (p : Parts) (s : PartsShow setup c p) (fit : PartsFit setup c) where

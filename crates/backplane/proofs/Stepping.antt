@@ -26,7 +26,7 @@ use Rattle.coherence.proofs.Steps.{every_run_is_sound}
 use Rattle.coherence.proofs.Words.{entries_more}
 use Rattle.backplane.specs.declared.parts.Parts.{Parts}
 use Rattle.backplane.specs.Histories.{Histories, HistoriesKeep}
-use Rattle.backplane.specs.Machine.{Machine, MayHappen, configuration, configuration_after}
+use Rattle.backplane.specs.Machine.{Machine, MayHappen, configuration, configuration_after, happened}
 use Rattle.backplane.specs.Parts.{PartsShow, IsPartOf, CountsAreLow, PlacesFit}
 use Rattle.backplane.specs.Standing.{Stands}
 use Rattle.backplane.proofs.Counted.{length-mapped, length-filtered}
@@ -59,6 +59,10 @@ run-push setup events event run can =
 pub can-inside : (inside now : Machine) (event : Event) → inside ≡ now → MayHappen now event → MayHappen inside event
 can-inside inside now event e may = subst (λ (m : Machine). MayHappen m event) (sym e) may
 
+-- A machine of these events.
+abbrev at_events : Setup → List Event → Machine
+at_events setup events = record { setup = setup; journal = events }
+
 -- The same for the transaction that a board picks.
 pub picks-inside : (inside now : Machine) (board line : ℕ) (event : BusEvent) (outcome : Outcome) → inside ≡ now
     → MayHappen now (Connect (transaction_of now.setup (configuration now) board line event outcome))
@@ -66,6 +70,17 @@ pub picks-inside : (inside now : Machine) (board line : ℕ) (event : BusEvent) 
 picks-inside inside now board line event outcome e may =
     subst (λ (m : Machine). MayHappen m (Connect (transaction_of m.setup (configuration m) board line event outcome)))
     (sym e) may
+
+-- A machine whose journal has grown by the transaction that a board picks: that is what happened.
+pub picks-happened :
+    (now : Machine) (setup : Setup) (events grown : List Event) (board line : ℕ) (event : BusEvent) (outcome : Outcome)
+    (t : Transaction) → at_events setup events ≡ now → grown ≡ events ++ Connect t ∷ []
+    → t ≡ transaction_of setup (configuration_after setup events) board line event outcome
+    → at_events setup grown
+    ≡ happened now (Connect (transaction_of now.setup (configuration now) board line event outcome))
+picks-happened now setup events grown board line event outcome t is longer picked =
+    ap (at_events setup) (longer ∙ ap (λ (x : Transaction). events ++ Connect x ∷ []) picked)
+    ∙ ap (λ (m : Machine). happened m (Connect (transaction_of m.setup (configuration m) board line event outcome))) is
 
 -- ---- what holds of every machine
 

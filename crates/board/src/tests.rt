@@ -85,6 +85,20 @@ fn answers(
     )
 }
 
+/// Adds the answers of a sharer that keeps its copy where it can.
+fn sharer_answers(t: &mut Table) -> Result<(), PushFault> {
+    answers(t, BusEvent::Rd, State::S, true, false)?;
+    answers(t, BusEvent::Rfo, State::I, false, false)?;
+    answers(t, BusEvent::Inv, State::I, false, false)?;
+    answers(t, BusEvent::Urd, State::S, false, false)?;
+    answers(t, BusEvent::Bwr, State::S, true, true)?;
+    answers(t, BusEvent::Uwr, State::I, false, false)?;
+    answers(t, BusEvent::Ubw, State::S, false, true)?;
+    answers(t, BusEvent::Pas, State::S, true, false)?;
+    answers(t, BusEvent::Flu, State::S, false, false)?;
+    Ok(())
+}
+
 /// A write-through table that writes a word it does not hold plainly or broadcast.
 fn write_through(alloc: Global, name: Name) -> Result<Table, PushFault> {
     let mut t = Table::empty(alloc, name, 1);
@@ -121,15 +135,7 @@ fn write_through(alloc: Global, name: Name) -> Result<Table, PushFault> {
     )?;
     acts(&mut t, State::I, LocalEvent::Pass, State::I, None)?;
     acts(&mut t, State::I, LocalEvent::Flush, State::I, None)?;
-    answers(&mut t, BusEvent::Rd, State::S, true, false)?;
-    answers(&mut t, BusEvent::Rfo, State::I, false, false)?;
-    answers(&mut t, BusEvent::Inv, State::I, false, false)?;
-    answers(&mut t, BusEvent::Urd, State::S, false, false)?;
-    answers(&mut t, BusEvent::Bwr, State::S, true, true)?;
-    answers(&mut t, BusEvent::Uwr, State::I, false, false)?;
-    answers(&mut t, BusEvent::Ubw, State::S, false, true)?;
-    answers(&mut t, BusEvent::Pas, State::S, true, false)?;
-    answers(&mut t, BusEvent::Flu, State::S, false, false)?;
+    sharer_answers(&mut t)?;
     Ok(t)
 }
 

@@ -79,7 +79,12 @@ clean_victim_plays =
                       idle = refl;
                       by_raised = refl;
                       wins =
-                          record { competes = refl; number_highest = refl; lines_settled = refl; rounds_settled = refl };
+                          record {
+                            competes = refl;
+                            number_highest = refl;
+                            lines_settled = refl;
+                            rounds_settled = refl;
+                          };
                     },
                     (
                       (

@@ -69,7 +69,13 @@ passed_over_plays =
                 (
                   (
                     read 0,
-                    record { present = refl; not_raised = refl; not_granted = refl; not_connected = refl; needs = refl },
+                    record {
+                      present = refl;
+                      not_raised = refl;
+                      not_granted = refl;
+                      not_connected = refl;
+                      needs = refl;
+                    },
                   ),
                   (
                     record {
@@ -226,7 +232,13 @@ starving_plays =
                 (
                   (
                     read 0,
-                    record { present = refl; not_raised = refl; not_granted = refl; not_connected = refl; needs = refl },
+                    record {
+                      present = refl;
+                      not_raised = refl;
+                      not_granted = refl;
+                      not_connected = refl;
+                      needs = refl;
+                    },
                   ),
                   (
                     record {

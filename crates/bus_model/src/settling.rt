@@ -3,8 +3,8 @@
 ghost use Rattle.std.specs.Prelude.{◌≡◌, [], ◌∷◌, map};
 ghost use Rattle.bus_model.specs.Settling.{driven, lines_after, settled_lines, settled_rounds};
 
-/// The numbers 10, 9 and 7 compete: the lines are 15, 8, 11 and 10, round by round. So do numbers of
-/// ten bits, and an eleventh is not looked at. A single competitor settles at once.
+/// The numbers 10, 9 and 7 compete: the lines are 15, 8, 11 and 10, round by round. So do numbers
+/// of ten bits, and an eleventh is not looked at. A single competitor settles at once.
 pub fn small_contests_settle()
     ensures lines { map (lines_after (10 ∷ 9 ∷ 7 ∷ [])) (0 ∷ 1 ∷ 2 ∷ 3 ∷ [])
         ≡ 15 ∷ 8 ∷ 11 ∷ 10 ∷ [] }

@@ -281,7 +281,7 @@ fn right_grant(alloc: Global, seen: &mut Seen, by: BoardNo) -> Result<Option<Tex
             Some(spec) => u64::from(spec.number),
             None => 0,
         };
-        for rounds in 0..8u64 {
+        for rounds in 0..10u64 {
             let line = grant_line(alloc, by, winner, number, rounds)?;
             if takes(&mut seen.machine, line.bytes()) {
                 return Ok(Some(line));

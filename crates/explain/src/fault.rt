@@ -9,8 +9,12 @@ use setup_text::LimitOf;
 pub enum Wanted {
     /// The `memory` line of a setup.
     Memory,
-    /// A line of a setup: a part, an access or the end.
+    /// The line after the `memory` line: the `arbiter` line, or what a later line may be.
+    SecondLine,
+    /// A later line of a setup: a part, an access or the end.
     Part,
+    /// The second word of the `arbiter` line.
+    Fair,
     /// This one word.
     Word(&'static str),
     /// The name of a table.
@@ -82,6 +86,11 @@ pub enum Why<'a> {
     TooLate {
         word: &'static str,
         after: &'static str,
+    },
+    /// The `arbiter` line stands after another line than the `memory` line.
+    LateArbiter,
+    TwiceArbiter {
+        line: u32,
     },
     /// An access stands after a board.
     NoBoardYet,

@@ -131,7 +131,8 @@ fn say_late(text: &mut Text, word: &str, after: &str) -> Result<(), NoMemory> {
     say(text, after)?;
     say(
         text,
-        ". The order is memory, word lines, tables, boards with their accesses, end.\n",
+        ". The order is memory, arbiter (if any), word lines, tables, \
+         boards with their accesses, end.\n",
     )
 }
 
@@ -191,6 +192,14 @@ fn say_earlier(text: &mut Text, fault: &Fault) -> Result<(), NoMemory> {
             )
         }
         Why::TwiceNumber { board, line } => say_twice(text, board, line),
+        Why::TwiceArbiter { line } => {
+            counted(
+                text,
+                "The line arbiter fair was given before, at line ",
+                u64::from(line),
+                ".\n",
+            )
+        }
         Why::TableNotEnded { name, line } => {
             let before = "An end line is missing before this one, for table ";
             say_at_line(text, before, name, ", begun at line ", line)
@@ -206,13 +215,21 @@ fn say_other(text: &mut Text, fault: &Fault) -> Result<(), NoMemory> {
         Why::NoAlternative => {
             say(
                 text,
-                "The cell has no alternative. Expected a state (M, O, E, S or I) or CH:x/y after =.\n",
+                "The cell has no alternative. \
+                 Expected a state (M, O, E, S or I) or CH:x/y after =.\n",
             )
         }
         Why::Empty => {
             say(
                 text,
-                "The text is empty. A setup begins with memory LINES, and a text of tables with table NAME.\n",
+                "The text is empty. A setup begins with memory LINES, \
+                 and a text of tables with table NAME.\n",
+            )
+        }
+        Why::LateArbiter => {
+            say(
+                text,
+                "The line arbiter fair stands right after the memory line, before all others.\n",
             )
         }
         Why::SetupNotEnded => say(text, "The text ends without its last line, end.\n"),

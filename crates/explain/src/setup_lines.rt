@@ -22,6 +22,8 @@ struct Board {
 struct Draft<'a> {
     // The number of words of memory.
     words: u64,
+    // The line of `arbiter fair`, where the setup has it.
+    arbiter: Option<u32>,
     tables: Tables<'a>,
     boards: Vec<Board>,
     accesses: u64,
@@ -54,6 +56,28 @@ fn value_line<'a>(reader: &mut Reader<'a>, words: u64) -> Result<(), Stop<'a>> {
     address(reader, words)?;
     number(reader, Quantity::Value, 0, MOST)?;
     line_end(reader)
+}
+
+/// Reads the `arbiter` line after its first word, where the line is wanted.
+fn arbiter_line<'a>(
+    reader: &mut Reader<'a>,
+    draft: &mut Draft<'a>,
+    word: Word<'a>,
+    wanted: Wanted,
+) -> Result<(), Stop<'a>> {
+    if let Some(line) = draft.arbiter {
+        return Err(at(reader, Some(word), Why::TwiceArbiter { line }));
+    }
+    if !matches!(wanted, Wanted::SecondLine) {
+        return Err(at(reader, Some(word), Why::LateArbiter));
+    }
+    let kind = some_word(reader, Wanted::Fair)?;
+    if !is(kind.bytes, "fair") {
+        return Err(at(reader, Some(kind), Why::Expected(Wanted::Fair)));
+    }
+    line_end(reader)?;
+    draft.arbiter = Some(reader.line());
+    Ok(())
 }
 
 /// Reads a `word` line after its first word.
@@ -100,7 +124,7 @@ fn place<'a>(reader: &mut Reader<'a>, boards: u64) -> Result<(), Stop<'a>> {
 
 /// Reads an arbitration number that no earlier board has.
 fn board_number<'a>(reader: &mut Reader<'a>, boards: &[Board]) -> Result<u64, Stop<'a>> {
-    let (number, word) = number(reader, Quantity::BoardNumber, 1, 255)?;
+    let (number, word) = number(reader, Quantity::BoardNumber, 1, 1023)?;
     let mut board = 0u64;
     for earlier in boards {
         board = board.saturating_add(1);
@@ -245,7 +269,11 @@ fn part<'a>(
     reader: &mut Reader<'a>,
     draft: &mut Draft<'a>,
     word: Word<'a>,
+    wanted: Wanted,
 ) -> Result<(), Stop<'a>> {
+    if is(word.bytes, "arbiter") {
+        return arbiter_line(reader, draft, word, wanted);
+    }
     if is(word.bytes, "word") {
         return word_line(reader, draft, word);
     }
@@ -257,8 +285,23 @@ fn part<'a>(
     }
     match local_event_of(word.bytes) {
         Some(event) => access_line(reader, draft, word, event),
-        None => Err(at(reader, Some(word), Why::Expected(Wanted::Part))),
+        None => Err(at(reader, Some(word), Why::Expected(wanted))),
     }
+}
+
+/// Reads a line or a table. Returns whether it was the `end` line.
+fn line<'a>(
+    reader: &mut Reader<'a>,
+    draft: &mut Draft<'a>,
+    wanted: Wanted,
+) -> Result<bool, Stop<'a>> {
+    let word = some_word(reader, wanted)?;
+    if is(word.bytes, "end") {
+        end_line(reader, draft, word)?;
+        return Ok(true);
+    }
+    part(reader, draft, word, wanted)?;
+    Ok(false)
 }
 
 /// Checks that no line with words is left.
@@ -276,20 +319,20 @@ pub fn read_parts<'a>(alloc: Global, bytes: &'a [u8]) -> Result<(), Stop<'a>> {
     let words = memory_line(&mut reader)?;
     let mut draft = Draft {
         words,
+        arbiter: None,
         tables: Tables::new(alloc),
         boards: Vec::new(alloc),
         accesses: 0,
     };
+    let mut wanted = Wanted::SecondLine;
     for _ in 0..bytes.len() {
         if !reader.next_line() {
             break;
         }
-        let word = some_word(&mut reader, Wanted::Part)?;
-        if is(word.bytes, "end") {
-            end_line(&mut reader, &draft, word)?;
+        if line(&mut reader, &mut draft, wanted)? {
             return text_end(&mut reader);
         }
-        part(&mut reader, &mut draft, word)?;
+        wanted = Wanted::Part;
     }
     Err(at_text_end(&reader, Why::SetupNotEnded))
 }

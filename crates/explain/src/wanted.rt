@@ -6,8 +6,8 @@ use crate::fault::Wanted;
 pub fn name_of(wanted: Wanted) -> &'static str {
     match wanted {
         Wanted::Memory => "the line memory LINES, with which a setup begins",
-        Wanted::Part => "a line of a setup",
-        Wanted::Word(_) => "one word",
+        Wanted::SecondLine | Wanted::Part => "a line of a setup",
+        Wanted::Word(_) | Wanted::Fair => "one word",
         Wanted::Name => "a name: a letter a-z, then letters a-z, digits and -, at most 32 bytes",
         Wanted::Cell => "a line that begins with a state, or end",
         Wanted::Version => "version 2, or the end of the line",
@@ -17,7 +17,8 @@ pub fn name_of(wanted: Wanted) -> &'static str {
         Wanted::BusEventOrBar { .. } =>
             "a bus event, | with another alternative, or the end of the line",
         Wanted::SignalOrBar =>
-            "the signals of an answer in this order, | with another alternative, or the end of the line",
+            "the signals of an answer in this order, | with another alternative, \
+             or the end of the line",
         Wanted::Bar => "| with another alternative, or the end of the line",
         Wanted::Shape => "the cache of the board (cached SETS WAYS, or plain)",
         Wanted::Choose => "how the board chooses",
@@ -32,6 +33,10 @@ pub fn name_of(wanted: Wanted) -> &'static str {
 pub fn words_of(wanted: Wanted) -> &'static [&'static str] {
     match wanted {
         Wanted::Memory => &["memory"],
+        Wanted::SecondLine => &[
+            "arbiter", "word", "table", "board", "read", "write", "pass", "flush", "end",
+        ],
+        Wanted::Fair => &["fair"],
         Wanted::Part => &[
             "word", "table", "board", "read", "write", "pass", "flush", "swap", "end",
         ],
@@ -114,6 +119,7 @@ fn hint_inside(wanted: Wanted, word: &[u8]) -> &'static str {
     match (wanted, word) {
         (Wanted::Memory, b"table") => "This looks like a text of tables, which only check reads.\n",
         (Wanted::Memory, [b'0'..=b'9', ..]) => "This looks like a schedule.\n",
+        (Wanted::Fair, _) => "Without an arbiter line the highest number wins, each time.\n",
         (Wanted::Memory, b"raise" | b"local" | b"drop" | b"grant") => "This looks like a trace.\n",
         _ => "",
     }

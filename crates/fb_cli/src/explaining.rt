@@ -14,13 +14,13 @@ use crate::helping::say;
 use crate::opening::limit_of;
 use crate::role::Role;
 use crate::rows::{
-    alone_is, file_after, file_and_seed_after, files_after, page_after, seed_after, words_after,
+    file_after, file_and_seed_after, files_after, kind_after, page_after, seed_after, text_alone,
 };
 use crate::seen::Seen;
-use crate::{checking, replaying, running, showing};
+use crate::{checking, narrowing, replaying, running, showing};
 use explain::{
-    explain_length, explain_schedule, explain_setup, explain_tables, explain_trace, explain_unread,
-    explain_words,
+    explain_alone, explain_length, explain_schedule, explain_setup, explain_tables, explain_trace,
+    explain_unread, explain_words,
 };
 use fb_edge::Shelf;
 use fb_text::Text;
@@ -41,22 +41,13 @@ fn is_fileless(words: &[String]) -> Result<(), Reply>
     if let Some(_) = seed_after("tally", words) {
         return Ok(());
     }
-    if let Some(_) = alone_is("help", words) {
+    if let Some(_) = kind_after("library", words) {
         return Ok(());
     }
-    if let Some(_) = alone_is("-h", words) {
-        return Ok(());
-    }
-    if let Some(_) = alone_is("--help", words) {
+    if let Some(_) = text_alone(words) {
         return Ok(());
     }
     if let Some(_) = page_after("help", words) {
-        return Ok(());
-    }
-    if let Some(_) = alone_is("version", words) {
-        return Ok(());
-    }
-    if let Some(_) = alone_is("--version", words) {
         return Ok(());
     }
     Err(Reply::Refused(Refusal::NoRow))
@@ -90,6 +81,15 @@ fn ready<F: Shelf>(
     if let Some((setup, trace)) = files_after("replay", words) {
         return done(replaying::ready(alloc, setup, trace, shelf, seen));
     }
+    if let Some(table) = file_after("narrow", words) {
+        return done(narrowing::ready(alloc, table, shelf, seen));
+    }
+    if let Some((setup, schedule)) = files_after("traffic", words) {
+        return done(running::ready(alloc, setup, schedule, shelf, seen));
+    }
+    if let Some((setup, _)) = file_and_seed_after("traffic", words) {
+        return done(running::ready_setup(alloc, setup, shelf, seen));
+    }
     is_fileless(words)
 }
 
@@ -115,6 +115,14 @@ fn name_of(words: &[String], role: Role) -> &str {
     }
 }
 
+/// Whether a word is the first one.
+fn begin_with(words: &[String], name: &str) -> bool {
+    match words.first() {
+        Some(word) => word.as_str() == name,
+        None => false,
+    }
+}
+
 /// Appends why a setup or a text of tables is refused.
 fn explain_first(
     alloc: Global,
@@ -124,11 +132,10 @@ fn explain_first(
 ) -> Result<(), NoMemory>
     ensures { Extends text.old.bytes text.new.bytes }
 {
-    let checks = match words.first() {
-        Some(word) => word.as_str() == "check",
-        None => false,
-    };
-    if checks && bytes.len() < 2_147_483_648 && is_book(bytes) {
+    if begin_with(words, "narrow") {
+        return explain_alone(alloc, bytes, text);
+    }
+    if begin_with(words, "check") && bytes.len() < 2_147_483_648 && is_book(bytes) {
         return explain_tables(alloc, bytes, text);
     }
     explain_setup(alloc, bytes, text)

@@ -26,8 +26,8 @@ fn print_board_replies<K: Sink>(
 ) -> Result<(), PutFailed>
     requires board { IsBoard machine.now board }
     ensures paged { Paged (K.faults sink.old) (K.faults sink.new) (K.taken sink.old)
-        (K.taken sink.new) printer.old printer.new (board_replies (entries machine.now.journal) board)
-        result }
+        (K.taken sink.new) printer.old printer.new
+        (board_replies (entries machine.now.journal) board) result }
 {
     printer.replies(machine.replies(board), sink)
 }
@@ -90,8 +90,8 @@ fn print_copy<K: Sink>(
 ) -> Result<(), PutFailed>
     requires board { IsBoard machine.now board }
     ensures paged { Paged (K.faults sink.old) (K.faults sink.new) (K.taken sink.old)
-        (K.taken sink.new) printer.old printer.new (copy_of (configuration machine.now) board number)
-        result }
+        (K.taken sink.new) printer.old printer.new
+        (copy_of (configuration machine.now) board number) result }
 {
     if let Some(copy) = machine.copy(board, LineNo(number)) {
         let words = copy.1;

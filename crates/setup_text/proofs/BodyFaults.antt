@@ -20,19 +20,19 @@ use Rattle.table_text.specs.Spelling.{version_words}
 use Rattle.setup_text.specs.declared.fault.LimitOf.TheVariants.{Boards, Accesses}
 use Rattle.setup_text.specs.declared.fault.SetupKind.{SetupKind}
 use Rattle.setup_text.specs.declared.fault.SetupKind.TheVariants.{UnknownWord, Limit}
-use Rattle.setup_text.specs.Spelling.{TableText, BoardText, SetupText, end_row, arbiter_row, word_row, head_row, board_row, access_row, open_rows, setup_rows, AccessFits, SetupFits}
+use Rattle.setup_text.specs.Spelling.{TableText, BoardText, SetupText, end_row, word_row, head_row, board_row, access_row, open_rows, setup_rows, AccessFits, SetupFits}
 use Rattle.setup_text.specs.Values.{tables_of, setup_of}
 use Rattle.setup_text.specs.Standing.{StandsSoFar}
 use Rattle.setup_text.specs.Grammars.{setup_grammar, BreaksSetup, JudgedFirst, JudgedTableWord}
-use Rattle.setup_text.specs.Drafts.{with_fair, with_word, with_access}
-use Rattle.setup_text.specs.Reading.{Mode, body, in_table, value_line, address_line, word_line, head_line, table_head, board_added, access_of, access_line, access_read, end_line, maybe_access, body_line, this_word, line_ends, arbiter_line, second_line}
-use Rattle.setup_text.proofs.LineWords.{binds, is_word, word_read, nothing_read, ReadsHead, head_read}
+use Rattle.setup_text.specs.Drafts.{with_word, with_access}
+use Rattle.setup_text.specs.Reading.{Mode, body, in_table, value_line, address_line, word_line, head_line, table_head, board_added, access_of, access_line, access_read, end_line, maybe_access, body_line}
+use Rattle.setup_text.proofs.LineWords.{binds, is_word, ReadsHead, head_read}
 use Rattle.setup_text.proofs.Parts.{Opener, text, is_bare}
-use Rattle.setup_text.proofs.Follows.{Follows, arbiter, word as word_follows, head, next, board, access, ends, follows, next_arbiter, next_word, next_head, next_access, next_end, begins_by}
+use Rattle.setup_text.proofs.Follows.{Follows, arbiter, word as word_follows, head, next, board, access, ends, follows, next_word, next_head, next_access, next_end, begins_by}
 use Rattle.setup_text.proofs.SetupAgain.{first_word}
 use Rattle.setup_text.proofs.OneText.{breaks_body}
 use Rattle.setup_text.proofs.HeadLines.{Heads, head_stops, head_free}
-use Rattle.setup_text.proofs.LineFaults.{spelled, same_breaks, same_unfit, no_row, differ, FreeHere, free_nil, free_push, free_from, arbiter_is_free, word_is_free, end_is_free, event_is_free, Begins, Faulty, unfit_at, judged_at, refused_at, Refused, WordTail, EndTail, word_refused, end_refused, only_arbiter, only_word, only_head, only_end, EventTail, only_access}
+use Rattle.setup_text.proofs.LineFaults.{spelled, same_breaks, same_unfit, no_row, differ, FreeHere, free_nil, free_push, free_from, word_is_free, end_is_free, event_is_free, Begins, Faulty, unfit_at, judged_at, only_word, only_head, only_end, EventTail, only_access}
 use Rattle.setup_text.proofs.BoardRefused.{board_stops, board_passes}
 use Rattle.setup_text.proofs.AddressFaults.{one_stops, one_passes, two_stops, two_passes}
 
@@ -765,112 +765,3 @@ module _ (rest : List Place) (line : ℕ) where
           → FreeFront BreaksSetup (open_rows (text n ws ts bs)) (w ∷ l)
       first_test true t e = by_here (codes "word") (is_word w (codes "word") t) (word_passes n ws ts bs l m h e)
       first_test false t e = second_test (bytes_eq w (codes "table")) refl e
-
-  -- ---- the line after the `memory` line
-
-  module _ (n : ℕ) (h : StandsSoFar (text (n, false) [] [] [])) where
-    abbrev bare : SetupText
-    bare = text (n, false) [] [] []
-
-    begins_arbiter : (front more : Words) → arbiter_row ≡ front ++ more → Begins (text (n, false) [] [] []) front
-    begins_arbiter front more e =
-        begins_by (open_rows (text (n, false) [] [] [])) arbiter_row front more (next_arbiter n h.fits) e
-
-    arbiter_free : FreeHere (text (n, false) [] [] []) (codes "arbiter" ∷ [])
-    arbiter_free = free_push bare [] (codes "arbiter") (free_nil bare) (arbiter_is_free bare)
-
-    row_free : FreeHere (text (n, false) [] [] []) arbiter_row
-    row_free = free_push bare (codes "arbiter" ∷ []) (codes "fair") arbiter_free (λ k j. j)
-
-    behind_row :
-        (us : Words) (k : SetupKind) → line_ends us ≡ Err k
-        → Faulty (text (n, false) [] [] []) line (codes "arbiter" ∷ codes "fair" ∷ us) rest k
-    behind_row us k e =
-        refused_at bare line (codes "arbiter" ∷ codes "fair" ∷ us) rest arbiter_row us EndTail k UnknownWord h refl
-        (begins_arbiter arbiter_row [] refl) row_free (end_refused us k e)
-        (λ t others f.
-        (let is : codes "fair" ∷ t ≡ codes "fair" ∷ [] = only_arbiter bare (codes "fair" ∷ t) others f in
-        let none : t ≡ [] = cc in none)) refl refl
-
-    arbiter_stops :
-        (l : Words) (k : SetupKind) → arbiter_line (setup_of (text (n, false) [] [] [])) l ≡ Err k
-        → Faulty (text (n, false) [] [] []) line (codes "arbiter" ∷ l) rest k
-    unfolding arbiter_line
-    arbiter_stops l k e = go (this_word (codes "fair") l) refl e
-      where
-        ending :
-            (us : Words) (x : Result (Unit {0}) SetupKind) → line_ends us ≡ x
-            → (x >>= λ _. Ok (body (with_fair (setup_of (text (n, false) [] [] []))))) ≡ Err k
-            → Faulty (text (n, false) [] [] []) line (codes "arbiter" ∷ codes "fair" ∷ us) rest k
-        ending us (Ok y) r e = absurd cc
-        ending us (Err j) r e =
-            let same : j ≡ k = cc in behind_row us k (r ∙ ap (λ (x : SetupKind). Err x) same)
-
-        go :
-            (x : Result Words SetupKind) → this_word (codes "fair") l ≡ x
-            → (x >>=
-            λ after. line_ends after >>= λ _. Ok (body (with_fair (setup_of (text (n, false) [] [] []))))) ≡ Err k
-            → Faulty (text (n, false) [] [] []) line (codes "arbiter" ∷ l) rest k
-        go (Ok us) r e =
-            subst (λ (x : Words). Faulty (text (n, false) [] [] []) line (codes "arbiter" ∷ x) rest k)
-            (sym (word_read (codes "fair") l us r)) (ending us (line_ends us) refl e)
-        go (Err j) r e =
-            let same : j ≡ k = cc in
-            refused_at bare line (codes "arbiter" ∷ l) rest (codes "arbiter" ∷ []) l (WordTail (codes "fair")) k
-            UnknownWord h refl (begins_arbiter (codes "arbiter" ∷ []) (codes "fair" ∷ []) refl) arbiter_free
-            (subst (λ (x : SetupKind). Refused (WordTail (codes "fair")) l x UnknownWord) same
-            (word_refused (codes "fair") l j r))
-            (λ t others f. ([], only_arbiter bare t others f)) refl refl
-
-    arbiter_passes :
-        (l : Words) (m : Mode) → arbiter_line (setup_of (text (n, false) [] [] [])) l ≡ Ok m
-        → FreeFront BreaksSetup (open_rows (text (n, false) [] [] [])) (codes "arbiter" ∷ l)
-    unfolding arbiter_line
-    arbiter_passes l m e =
-        let setup = setup_of (text (n, false) [] [] []) in
-        let a = binds (this_word (codes "fair") l) (λ after. line_ends after >>= λ _. Ok (body (with_fair setup))) m e
-        in
-        let b = binds (line_ends a.value) (λ _. Ok (body (with_fair setup))) m a.then in
-        let is : l ≡ codes "fair" ∷ [] =
-        word_read (codes "fair") l a.value a.here
-        ∙ ap (λ (u : Words). codes "fair" ∷ u) (nothing_read a.value b.value b.here) in
-        subst (λ (x : Words). FreeFront BreaksSetup (open_rows (text (n, false) [] [] [])) (codes "arbiter" ∷ x))
-        (sym is) (free_from bare arbiter_row h row_free)
-
-  -- A line that was refused.
-  pub second_stops :
-      (n : ℕ) (l : Words) (k : SetupKind) → StandsSoFar (text (n, false) [] [] [])
-      → second_line (setup_of (text (n, false) [] [] [])) l ≡ Err k
-      → Faulty (text (n, false) [] [] []) line l rest k
-  unfolding second_line body_line
-  second_stops n [] k h e = body_stops (n, false) [] [] [] [] k (λ b. refl) h e
-  second_stops n (w ∷ l) k h e = go (bytes_eq w (codes "arbiter")) refl e
-    where
-      go :
-          (b : Bool) → bytes_eq w (codes "arbiter") ≡ b
-          → cond b (arbiter_line (setup_of (text (n, false) [] [] [])) l)
-          (body_line (setup_of (text (n, false) [] [] [])) (w ∷ l)) ≡ Err k
-          → Faulty (text (n, false) [] [] []) line (w ∷ l) rest k
-      go true t e =
-          subst (λ (x : List ℕ). Faulty (text (n, false) [] [] []) line (x ∷ l) rest k)
-          (sym (is_word w (codes "arbiter") t)) (arbiter_stops n h l k e)
-      go false t e = body_stops (n, false) [] [] [] (w ∷ l) k (λ b. t) h e
-
-  -- A line that was read.
-  pub second_passes :
-      (n : ℕ) (l : Words) (m : Mode) → StandsSoFar (text (n, false) [] [] [])
-      → second_line (setup_of (text (n, false) [] [] [])) l ≡ Ok m
-      → FreeFront BreaksSetup (open_rows (text (n, false) [] [] [])) l
-  unfolding second_line
-  second_passes n [] m h e = absurd cc
-  second_passes n (w ∷ l) m h e = go (bytes_eq w (codes "arbiter")) refl e
-    where
-      go :
-          (b : Bool) → bytes_eq w (codes "arbiter") ≡ b
-          → cond b (arbiter_line (setup_of (text (n, false) [] [] [])) l)
-          (body_line (setup_of (text (n, false) [] [] [])) (w ∷ l)) ≡ Ok m
-          → FreeFront BreaksSetup (open_rows (text (n, false) [] [] [])) (w ∷ l)
-      go true t e =
-          subst (λ (x : List ℕ). FreeFront BreaksSetup (open_rows (text (n, false) [] [] [])) (x ∷ l))
-          (sym (is_word w (codes "arbiter") t)) (arbiter_passes n h l m e)
-      go false t e = body_passes (n, false) [] [] [] (w ∷ l) m h e

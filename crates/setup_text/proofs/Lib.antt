@@ -22,6 +22,7 @@ pub mod BoardStops
 pub mod BoardRefused
 pub mod AddressFaults
 pub mod BodyFaults
+pub mod SecondFaults
 pub mod SetupFaults
 pub mod Writes
 pub mod WrittenWords

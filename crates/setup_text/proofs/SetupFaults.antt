@@ -34,7 +34,8 @@ use Rattle.setup_text.proofs.Follows.{InTable, Next, follows_open, nothing_follo
 use Rattle.setup_text.proofs.OneText.{breaks_open}
 use Rattle.setup_text.proofs.OpenTables.{line_stops, cell_free, end_free}
 use Rattle.setup_text.proofs.LineFaults.{closed_text, spelled, same_breaks, same_unfit, decimal_same, kind_at, Refused, NumberTail, WordTail, EndTail, number_refused, word_refused, end_refused}
-use Rattle.setup_text.proofs.BodyFaults.{body_stops, body_passes, second_stops, second_passes}
+use Rattle.setup_text.proofs.BodyFaults.{body_stops, body_passes}
+use Rattle.setup_text.proofs.SecondFaults.{second_stops, second_passes}
 
 -- ---- the first line
 

@@ -1,4 +1,4 @@
-//! Texts that are read, and texts with a fault.
+//! A text of each kind that is read, and a few with a fault. The others are folders of cases/.
 
 use super::*;
 use std::alloc::Global;
@@ -25,173 +25,19 @@ fn bad(line: u32, kind: SetupKind) -> Result<usize, SetupFault> {
 }
 
 #[test]
-fn memory_with_a_fault(rt: HostRuntime) -> Result<(), Fail> {
+fn setups_with_a_fault(rt: HostRuntime) -> Result<(), Fail> {
     let rows = [
         ("", 1, SetupKind::NoEnd),
-        ("memory 4097\n", 1, limit(LimitOf::Lines, 4097)),
         ("memory 0\n", 1, limit(LimitOf::Lines, 0)),
-        ("memory 4294967295\n", 1, limit(LimitOf::Lines, 4294967295)),
-        ("memory 4294967296\n", 1, SetupKind::Number),
         ("memory 01\n", 1, SetupKind::Number),
-        ("memory\n", 1, SetupKind::Number),
-        ("memory 1 1\n", 1, SetupKind::UnknownWord),
-        ("mem 1\n", 1, SetupKind::UnknownWord),
-        ("memory 1\nword 4 1\n", 2, SetupKind::Address),
-        ("memory 1\nword 3 4294967296\n", 2, SetupKind::Number),
-    ];
-    for (text, line, kind) in rows {
-        let read = read_as_setup(rt.alloc(), text)?;
-        assert_eq!(rt; read, Err(SetupFault::Bad { line, kind }), "{text}");
-    }
-    Ok(())
-}
-
-#[test]
-fn arbiter_lines_with_a_fault(rt: HostRuntime) -> Result<(), Fail> {
-    let rows = [
         ("memory 1\narbiter\n", 2, SetupKind::UnknownWord),
-        ("memory 1\narbiter round\n", 2, SetupKind::UnknownWord),
-        ("memory 1\narbiter fair 1\n", 2, SetupKind::UnknownWord),
-        (
-            "memory 1\narbiter fair\narbiter fair\n",
-            3,
-            SetupKind::UnknownWord,
-        ),
-        (
-            "memory 1\nword 0 0\narbiter fair\n",
-            3,
-            SetupKind::UnknownWord,
-        ),
-        ("arbiter fair\n", 1, SetupKind::UnknownWord),
-        ("memory 1\narbiter fair\n", 3, SetupKind::NoEnd),
-    ];
-    for (text, line, kind) in rows {
-        let read = read_as_setup(rt.alloc(), text)?;
-        assert_eq!(rt; read, Err(SetupFault::Bad { line, kind }), "{text}");
-    }
-    Ok(())
-}
-
-#[test]
-fn tables_with_a_fault(rt: HostRuntime) -> Result<(), Fail> {
-    let rows = [
-        (
-            "memory 1\ntable un\nI read = I urd\nI read = I urd\n",
-            4,
-            SetupKind::TwiceCell,
-        ),
-        ("memory 1\ntable un\nI read =\n", 3, SetupKind::NoCell),
-        ("memory 1\ntable Un\n", 2, SetupKind::UnknownWord),
-        ("memory 1\ntable x version 3\nend\n", 2, SetupKind::Number),
+        ("memory 1\nword 4\n", 2, SetupKind::Address),
+        ("memory 1\nend\n", 2, limit(LimitOf::Boards, 0)),
+        ("memory 1\ntable x\nend\nboard 2\n", 4, SetupKind::Number),
+        ("memory 1\ntable x version 3\n", 2, SetupKind::Number),
         (
             "memory 1\ntable x\nI swap = I usw\n",
             3,
-            SetupKind::UnknownWord,
-        ),
-        (
-            "memory 1\ntable x\nend\ntable x\nend\n",
-            4,
-            SetupKind::TwiceName,
-        ),
-        (
-            "memory 1\ntable x\nend\nword 0 1\n",
-            4,
-            SetupKind::UnknownWord,
-        ),
-        (
-            "memory 1\ntable x\nend\nread 0\n",
-            4,
-            SetupKind::UnknownWord,
-        ),
-        (
-            "memory 1\ntable x\nend\nend\n",
-            4,
-            limit(LimitOf::Boards, 0),
-        ),
-        ("memory 1\ntable x\nend\n", 4, SetupKind::NoEnd),
-        ("memory 1\ntable x\n", 3, SetupKind::NoEnd),
-    ];
-    for (text, line, kind) in rows {
-        let read = read_as_setup(rt.alloc(), text)?;
-        assert_eq!(rt; read, Err(SetupFault::Bad { line, kind }), "{text}");
-    }
-    Ok(())
-}
-
-#[test]
-fn numbers_of_boards_with_a_fault(rt: HostRuntime) -> Result<(), Fail> {
-    let rows = [
-        (
-            "memory 1\ntable x\nend\nboard 2 number 5 table x plain choose first\n",
-            4,
-            SetupKind::Number,
-        ),
-        (
-            "memory 1\ntable x\nend\nboard 1 number 0 table x plain choose first\n",
-            4,
-            SetupKind::Number,
-        ),
-        (
-            "memory 1\ntable x\nend\nboard 1 number 1024 table x plain choose first\n",
-            4,
-            SetupKind::Number,
-        ),
-        (
-            "memory 1\ntable x\nend\nboard 1 number 5 table x cached 257 1 choose first\n",
-            4,
-            SetupKind::Number,
-        ),
-        (
-            "memory 1\ntable x\nend\n\
-             board 1 number 5 table x plain choose seed 18446744073709551616\n",
-            4,
-            SetupKind::Number,
-        ),
-    ];
-    for (text, line, kind) in rows {
-        let read = read_as_setup(rt.alloc(), text)?;
-        assert_eq!(rt; read, Err(SetupFault::Bad { line, kind }), "{text}");
-    }
-    Ok(())
-}
-
-#[test]
-fn boards_with_a_fault(rt: HostRuntime) -> Result<(), Fail> {
-    let rows = [
-        (
-            "memory 1\ntable x\nI read = S rd\nend\nboard 1 number 5 table x plain choose first\n",
-            5,
-            SetupKind::NoFrames,
-        ),
-        (
-            "memory 1\ntable x\nend\nboard 1 number 5 table y plain choose first\n",
-            4,
-            SetupKind::NoTable,
-        ),
-        (
-            "memory 1\ntable x\nend\nboard 1 number 5 table x cached 16 17 choose first\n",
-            4,
-            limit(LimitOf::Frames, 272),
-        ),
-        (
-            "memory 1\ntable x\nend\nboard 1 number 5 table x plain choose last\n",
-            4,
-            SetupKind::UnknownWord,
-        ),
-        (
-            "memory 1\ntable x\nend\nboard 1 number 5 table x plain choose first\n\
-             board 2 number 5 table x plain choose first\n",
-            5,
-            SetupKind::TwiceNumber,
-        ),
-        (
-            "memory 1\ntable x\nend\nboard 1 number 5 table x plain choose first\nread 4\n",
-            5,
-            SetupKind::Address,
-        ),
-        (
-            "memory 1\ntable x\nend\nboard 1 number 5 table x plain choose first\nend\n#\nend\n",
-            7,
             SetupKind::UnknownWord,
         ),
     ];
@@ -214,24 +60,16 @@ fn alone_in(alloc: Global, text: &str) -> Result<Result<usize, SetupFault>, Fail
 }
 
 #[test]
-fn texts_of_one_table(rt: HostRuntime) -> Result<(), Fail> {
-    let alone = alone_in(rt.alloc(), "# one\ntable xyz\nend\n\n# no more\n")?;
-    assert_eq!(rt; alone, Ok(3));
+fn texts_of_one_table_are_read(rt: HostRuntime) -> Result<(), Fail> {
     let rows = [
-        ("", 1, SetupKind::NoEnd),
-        ("memory 1\n", 1, SetupKind::UnknownWord),
-        ("\ntable x\n", 3, SetupKind::NoEnd),
-        ("table x y\nend\n", 1, SetupKind::UnknownWord),
-        ("table x\nend\n\ntable y\nend\n", 4, SetupKind::UnknownWord),
-        (
-            "table x\nI read = I\nI read = I\nend\nmore\n",
-            3,
-            SetupKind::TwiceCell,
-        ),
+        ("table xy\nend\n", Ok(2)),
+        ("end\n", bad(1, SetupKind::UnknownWord)),
+        ("table x\n", bad(2, SetupKind::NoEnd)),
+        ("table x version 2\nI swap = I usw\nend\n", Ok(1)),
+        ("table x v2\n", bad(1, SetupKind::UnknownWord)),
     ];
-    for (text, line, kind) in rows {
-        let read = alone_in(rt.alloc(), text)?;
-        assert_eq!(rt; read, Err(SetupFault::Bad { line, kind }), "{text}");
+    for (text, wanted) in rows {
+        assert_eq!(rt; alone_in(rt.alloc(), text)?, wanted, "{text}");
     }
     Ok(())
 }
@@ -250,18 +88,9 @@ fn tables_in(alloc: Global, text: &str) -> Result<Result<usize, SetupFault>, Fai
 #[test]
 fn texts_of_tables_are_read(rt: HostRuntime) -> Result<(), Fail> {
     let rows = [
+        ("table x\nend\n", Ok(1)),
         ("", bad(1, SetupKind::NoEnd)),
-        ("end\n", bad(1, SetupKind::UnknownWord)),
-        ("table x\n", bad(2, SetupKind::NoEnd)),
-        ("table x\nI read =\n", bad(2, SetupKind::NoCell)),
         ("table x\nend\ntable x\n", bad(3, SetupKind::TwiceName)),
-        ("table x\nend\nmemory 1\n", bad(3, SetupKind::UnknownWord)),
-        ("table x version\n", bad(1, SetupKind::Number)),
-        ("table x v2\n", bad(1, SetupKind::UnknownWord)),
-        (
-            "table x version 2\nI swap = I usw\nend\ntable y\nend\n",
-            Ok(2),
-        ),
     ];
     for (text, wanted) in rows {
         assert_eq!(rt; tables_in(rt.alloc(), text)?, wanted, "{text}");
@@ -283,12 +112,8 @@ fn places_in(alloc: Global, text: &str) -> Result<Result<usize, SetupFault>, Fai
 #[test]
 fn schedules_are_read(rt: HostRuntime) -> Result<(), Fail> {
     let rows = [
-        ("", Ok(0)),
-        ("1 2\n# none\n2", Ok(3)),
-        ("1 3\n", bad(1, SetupKind::Number)),
-        ("1\n2 2\n0\n", bad(3, SetupKind::Number)),
-        ("01\n", bad(1, SetupKind::Number)),
-        ("1 x\n", bad(1, SetupKind::Number)),
+        ("1 2\n# no\n2", Ok(3)),
+        ("1\n3\n", bad(2, SetupKind::Number)),
     ];
     for (text, wanted) in rows {
         assert_eq!(rt; places_in(rt.alloc(), text)?, wanted, "{text}");

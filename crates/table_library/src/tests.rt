@@ -29,11 +29,8 @@ fn same(a: &Table, b: &Table) -> bool {
     true
 }
 
-/// An alternative for a local cell.
-type Change = (State, LocalEvent, LocalAction);
-
 /// Appends an alternative to a local cell, where the table's version has both.
-fn push_local(
+fn push_said(
     table: &mut Table,
     state: State,
     event: LocalEvent,
@@ -49,7 +46,7 @@ fn push_local(
 }
 
 /// Appends an answer to an answer cell, where the table's version has it.
-fn push_answer(
+fn push_said_answer(
     table: &mut Table,
     state: State,
     event: BusEvent,
@@ -64,68 +61,35 @@ fn push_answer(
     }
 }
 
-/// The cells of a table in some of its states, and these alternatives.
-fn in_states(
-    alloc: Global,
-    table: &Table,
-    states: &[State],
-    changes: &[Change],
-) -> Result<Table, Fail> {
+/// The cells of a table in some of its states.
+fn in_states(alloc: Global, table: &Table, states: &[State]) -> Result<Table, Fail> {
     let mut part = Table::empty(alloc, table.name(), table.version());
-    for (state, event, action) in changes {
-        push_local(&mut part, *state, *event, *action)?;
-    }
     for state in states {
         for event in LOCAL_EVENTS {
-            if !part.said_local(*state, event).is_empty() {
-                continue;
-            }
             for action in table.said_local(*state, event) {
-                push_local(&mut part, *state, event, *action)?;
+                push_said(&mut part, *state, event, *action)?;
             }
         }
         for event in BUS_EVENTS {
             for answer in table.said_snoop(*state, event) {
-                push_answer(&mut part, *state, event, *answer)?;
+                push_said_answer(&mut part, *state, event, *answer)?;
             }
         }
     }
     Ok(part)
 }
 
-/// An alternative that goes to a state by a transaction.
-fn by(state: State, event: BusEvent) -> LocalAction {
-    LocalAction {
-        result: Outcome::Fixed(state),
-        bus: Some(event),
-    }
-}
-
 #[test]
 fn names_are_those_of_the_tables(rt: HostRuntime) -> Result<(), Fail> {
-    let names = [
-        (Kind::Invalidate, "cb"),
-        (Kind::Update, "up"),
-        (Kind::Through, "wt"),
-        (Kind::ThroughBroadcast, "wb"),
-        (Kind::Exclusive, "ex"),
-        (Kind::Uncached, "un"),
-    ];
-    for (kind, name) in names {
-        assert_eq!(rt; kind.name(), name);
-        assert_eq!(rt; kind_of(name.as_bytes()), Some(kind));
+    for kind in KINDS {
+        assert_eq!(rt; kind_of(kind.name().as_bytes()), Some(kind));
         let Ok(accepted) = library(rt.alloc(), kind) else {
             return Err("memory".into());
         };
-        assert_eq!(rt; accepted.table().name().bytes(), name.as_bytes());
-        let Ok(Some(narrowed)) = narrow(rt.alloc(), accepted.table()) else {
-            return Err("none".into());
-        };
-        assert!(rt; same(narrowed.table(), accepted.table()));
+        assert_eq!(rt; accepted.table().name().bytes(), kind.name().as_bytes());
     }
-    for name in ["class", "", "cbx", "CB"] {
-        assert_eq!(rt; kind_of(name.as_bytes()), None);
-    }
+    assert_eq!(rt; Kind::Invalidate.name(), "cb");
+    assert_eq!(rt; kind_of(b"CB"), None);
     Ok(())
 }
 
@@ -145,42 +109,11 @@ fn what_leads_out_goes(rt: HostRuntime) -> Result<(), Fail> {
         },
         bus: Some(BusEvent::Rd),
     };
-    push_local(&mut wide, State::I, LocalEvent::Read, to_exclusive)?;
+    push_said(&mut wide, State::I, LocalEvent::Read, to_exclusive)?;
     let Ok(Some(narrowed)) = narrow(rt.alloc(), &wide) else {
         return Err("none".into());
     };
     assert!(rt; same(narrowed.table(), through.table()));
-    Ok(())
-}
-
-#[test]
-fn what_is_not_reached_goes(rt: HostRuntime) -> Result<(), Fail> {
-    let Ok(uncached) = library(rt.alloc(), Kind::Uncached) else {
-        return Err("memory".into());
-    };
-    let Ok(cached) = library(rt.alloc(), Kind::Invalidate) else {
-        return Err("memory".into());
-    };
-    let changes = [
-        (State::I, LocalEvent::Read, by(State::I, BusEvent::Urd)),
-        (State::I, LocalEvent::Write, by(State::I, BusEvent::Uwr)),
-    ];
-    let wide = in_states(rt.alloc(), cached.table(), &STATES, &changes)?;
-    let Ok(Some(narrowed)) = narrow(rt.alloc(), &wide) else {
-        return Err("none".into());
-    };
-    assert!(rt;
-        narrowed
-            .table()
-            .local(State::M, LocalEvent::Read)
-            .is_empty()
-    );
-    for event in LOCAL_EVENTS {
-        assert_eq!(rt;
-            narrowed.table().local(State::I, event),
-            uncached.table().local(State::I, event)
-        );
-    }
     Ok(())
 }
 
@@ -192,26 +125,8 @@ fn nothing_may_be_left(rt: HostRuntime) -> Result<(), Fail> {
         return Err("memory".into());
     };
     let states = [State::M, State::E, State::S, State::I];
-    let without_owned = in_states(rt.alloc(), cached.table(), &states, &[])?;
+    let without_owned = in_states(rt.alloc(), cached.table(), &states)?;
     assert!(rt; matches!(narrow(rt.alloc(), &without_owned), Ok(None)));
-    Ok(())
-}
-
-/// Each round leaves out one state: E, which has no cells, then M, O, S, and finally I.
-#[test]
-fn states_may_go_one_by_one(rt: HostRuntime) -> Result<(), Fail> {
-    let Ok(cached) = library(rt.alloc(), Kind::Invalidate) else {
-        return Err("memory".into());
-    };
-    let states = [State::M, State::O, State::S, State::I];
-    let changes = [
-        (State::O, LocalEvent::Pass, by(State::S, BusEvent::Pas)),
-        (State::S, LocalEvent::Write, by(State::O, BusEvent::Inv)),
-        (State::I, LocalEvent::Read, by(State::S, BusEvent::Rd)),
-        (State::I, LocalEvent::Write, by(State::I, BusEvent::Uwr)),
-    ];
-    let table = in_states(rt.alloc(), cached.table(), &states, &changes)?;
-    assert!(rt; matches!(narrow(rt.alloc(), &table), Ok(None)));
     Ok(())
 }
 
@@ -226,29 +141,34 @@ fn newer_uncached(alloc: Global) -> Result<Table, Fail> {
     let mut table = Table::empty(alloc, name, 2);
     for event in LOCAL_EVENTS {
         for action in older.table().said_local(State::I, event) {
-            push_local(&mut table, State::I, event, *action)?;
+            push_said(&mut table, State::I, event, *action)?;
         }
     }
     Ok(table)
+}
+
+/// An alternative of an uncached board.
+fn uncached(event: BusEvent) -> LocalAction {
+    LocalAction {
+        result: Outcome::Fixed(State::I),
+        bus: Some(event),
+    }
 }
 
 /// A table of version 2 has to say what it does on a swap, by an alternative of the class.
 #[test]
 fn swaps_are_narrowed(rt: HostRuntime) -> Result<(), Fail> {
     let mut table = newer_uncached(rt.alloc())?;
+    let one_way = uncached(BusEvent::Uwr);
+    push_said(&mut table, State::I, LocalEvent::Swap, one_way)?;
     assert!(rt; matches!(narrow(rt.alloc(), &table), Ok(None)));
-    let one_way = by(State::I, BusEvent::Uwr);
-    push_local(&mut table, State::I, LocalEvent::Swap, one_way)?;
-    assert!(rt; matches!(narrow(rt.alloc(), &table), Ok(None)));
-    let both_ways = by(State::I, BusEvent::Usw);
-    push_local(&mut table, State::I, LocalEvent::Swap, both_ways)?;
+    let both_ways = uncached(BusEvent::Usw);
+    push_said(&mut table, State::I, LocalEvent::Swap, both_ways)?;
     let Ok(Some(narrowed)) = narrow(rt.alloc(), &table) else {
         return Err("none".into());
     };
-    let kept = narrowed.table();
-    assert_eq!(rt; kept.version(), 2);
     assert_eq!(rt;
-        kept.local(State::I, LocalEvent::Swap),
+        narrowed.table().local(State::I, LocalEvent::Swap),
         [both_ways].as_slice()
     );
     Ok(())
@@ -283,15 +203,9 @@ fn nobody() -> Takers {
     }
 }
 
-/// Two boards on one line: the first fetches it, the second reads it from the first, writes a word
-/// for both, and invalidates the other copy.
-fn small_journal() -> [Event; 9] {
-    let mut boards = Places::new();
-    boards.push(BoardNo(1));
-    let both = Takers {
-        memory: true,
-        boards,
-    };
+/// Two boards on one line: the first fetches it, and the second reads it from the first, and then a
+/// word of its own copy.
+fn small_journal() -> [Event; 5] {
     [
         connect(1, BusEvent::Rfo),
         data(1, BusEvent::Rfo, Source::Memory, nobody()),
@@ -306,10 +220,6 @@ fn small_journal() -> [Event; 9] {
                 reply: Some(5),
             },
         },
-        connect(2, BusEvent::Bwr),
-        data(2, BusEvent::Bwr, Source::Nobody, both),
-        connect(2, BusEvent::Inv),
-        data(2, BusEvent::Inv, Source::Nobody, nobody()),
     ]
 }
 
@@ -317,37 +227,20 @@ fn small_journal() -> [Event; 9] {
 fn a_small_journal_is_counted(rt: HostRuntime) -> Result<(), Fail> {
     let journal = small_journal();
     let report = traffic(&journal);
-    let first = Counts {
+    let second = Counts {
         connects: 1,
         words: 4,
-        local: 0,
-        served: 1,
-        took: 1,
-    };
-    let second = Counts {
-        connects: 3,
-        words: 5,
         local: 1,
         served: 0,
         took: 0,
     };
-    let none = Counts {
-        connects: 0,
-        words: 0,
-        local: 0,
-        served: 0,
-        took: 0,
-    };
-    assert_eq!(rt; report.board(BoardNo(1)), first);
     assert_eq!(rt; report.board(BoardNo(2)), second);
-    assert_eq!(rt; report.board(BoardNo(16)), none);
-    assert_eq!(rt; report.memory(), (1, 1));
+    assert_eq!(rt; report.memory(), (1, 0));
     let mut text = Text::new(rt.alloc());
     text.reserve(4096)?;
-    write_traffic(&journal, 2, &mut text);
-    let lines = "traffic 1 connects 1 words 4 local 0 served 1 took 1\n\
-                 traffic 2 connects 3 words 5 local 1 served 0 took 0\n\
-                 traffic memory served 1 took 1\n";
+    write_traffic(&journal, 1, &mut text);
+    let lines = "traffic 1 connects 1 words 4 local 0 served 1 took 0\n\
+                 traffic memory served 1 took 0\n";
     assert_eq!(rt; text.bytes(), lines.as_bytes());
     Ok(())
 }

@@ -77,7 +77,8 @@ fn long_line(alloc: Global) -> Result<Vec<u8>, Fail> {
 fn traces_of_a_run(rt: HostRuntime) -> Result<(), Fail> {
     let rows = [
         (
-            "data 2 urd line 1 from 1 into none states 2=I 1=M done read 5 = 7\nend\nanswer 2 1 5 7\n",
+            "data 2 urd line 1 from 1 into none states 2=I 1=M done read 5 = 7\nend\n\
+             answer 2 1 5 7\n",
             Ok(8),
         ),
         (

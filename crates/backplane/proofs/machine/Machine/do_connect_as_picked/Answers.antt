@@ -4,7 +4,7 @@ use Rattle.bus_model.specs.Events.{Connect, Transaction}
 use Rattle.bus_model.specs.Steps.{Can}
 use Rattle.bus_model.specs.Turns.{transaction_of}
 use Rattle.backplane.specs.Machine.{configuration_after}
-use Rattle.backplane.proofs.Stepping.{picks-inside, part-of-user, room-for, counts-low, follows, quiet-histories}
+use Rattle.backplane.proofs.Stepping.{picks-inside, picks-happened, part-of-user, room-for, counts-low, follows, quiet-histories}
 use Rattle.backplane.proofs.machine.Machine.do_connect_as_picked.Goals as goal
 
 pub connect-connected-requires-clause-master : goal.connect-connected-requires-clause-master
@@ -46,3 +46,10 @@ invariant_of-self c =
     c.self.invariant can c.push_reserved.ensures.items c.push_reserved.ensures.capacity
     (c.connect-connected.ensures.shows m.setup conf c.self.invariant.parts)
     (quiet-histories m.setup m.journal.items m.histories (Connect t) refl c.self.invariant.histories)
+
+pub returns : goal.returns
+returns c =
+    let m = c.self.inside in
+    picks-happened c.args.self.now m.setup m.journal.items c.push_reserved.new.self.items c.args.board c.args.line
+    c.args.event c.args.outcome c.connect-connected.result c.self.view_is c.push_reserved.ensures.items
+    (c.connect-connected.ensures.picks m.setup (configuration_after m.setup m.journal.items) c.self.invariant.parts)
