@@ -37,7 +37,7 @@ Due command files shelf_rose text =
 
 -- How a call that does a command ends: each status comes only where its field says. `before` and
 -- `after` are what the sink took.
-record FormerAnswers (command : Command) (files : Option Files) (shelf_rose sink_rose : Type 0)
+pub record FormerAnswers (command : Command) (files : Option Files) (shelf_rose sink_rose : Type 0)
     (before after : Option (List ℕ)) (status : ℕ) : Type 0 where
   done : status ≡ 0 → Taken command files before after 0
   refused : status ≡ 1 → Taken command files before after 1

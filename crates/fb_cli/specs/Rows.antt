@@ -87,6 +87,14 @@ fileless_rows =
     ∷ row (after (codes "help") (one page_of)) printing
     ∷ []
 
+-- The rows of the commands that study a table or a run, and of those that open no file.
+abbrev pub study_rows : List Row
+study_rows =
+    row (after (codes "narrow") (one Some)) narrow
+    ∷ row (after (codes "traffic") two) (λ names. traffic names.0 names.1)
+    ∷ row (after (codes "traffic") one_and_seed) (λ named. traffic_seeded named.0 named.1)
+    ∷ fileless_rows
+
 -- The rows of the commands that take no threads and no other command's words.
 abbrev pub quiet_rows : List Row
 quiet_rows =
@@ -95,10 +103,7 @@ quiet_rows =
     ∷ row (after (codes "run") two) (λ names. run names.0 names.1)
     ∷ row (after (codes "run") one_and_seed) (λ named. run_seeded named.0 named.1)
     ∷ row (after (codes "replay") two) (λ names. replay names.0 names.1)
-    ∷ row (after (codes "narrow") (one Some)) narrow
-    ∷ row (after (codes "traffic") two) (λ names. traffic names.0 names.1)
-    ∷ row (after (codes "traffic") one_and_seed) (λ named. traffic_seeded named.0 named.1)
-    ∷ fileless_rows
+    ∷ study_rows
 
 -- The command of the first row that the words match.
 abbrev pub command_in : List Row → List (List ℕ) → Found

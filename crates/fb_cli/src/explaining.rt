@@ -5,7 +5,7 @@ ghost use Rattle.fb_edge.specs.Outside.{Rose};
 ghost use Rattle.explain.specs.Extends.{Extends};
 ghost use Rattle.fb_cli.specs.Output.{refusal_output};
 ghost use Rattle.fb_cli.specs.Explain.{explained};
-ghost use Rattle.fb_cli.specs.Rows.{command_in, explained_rows, fileless_rows};
+ghost use Rattle.fb_cli.specs.Rows.{command_in, explained_rows, fileless_rows, study_rows};
 ghost use Rattle.fb_cli.specs.Replies.{ComesTo, IsReady, answer_output, let_go};
 
 use crate::answers::{Answer, Outcome, Refusal, Reply, refusal_line};
@@ -53,6 +53,28 @@ fn is_fileless(words: &[String]) -> Result<(), Reply>
     Err(Reply::Refused(Refusal::NoRow))
 }
 
+/// What stands before a table or a run is studied is done, or before a command that opens no file.
+fn ready_to_study<F: Shelf>(
+    alloc: Global,
+    words: &[String],
+    shelf: &mut F,
+    seen: &mut Seen,
+) -> Result<(), Reply>
+    ensures { IsReady (command_in study_rows (map string_bytes words.now)) (F.file shelf.old)
+        (Rose (F.faults shelf.old) (F.faults shelf.new)) result }
+{
+    if let Some(table) = file_after("narrow", words) {
+        return done(narrowing::ready(alloc, table, shelf, seen));
+    }
+    if let Some((setup, schedule)) = files_after("traffic", words) {
+        return done(running::ready(alloc, setup, schedule, shelf, seen));
+    }
+    if let Some((setup, _)) = file_and_seed_after("traffic", words) {
+        return done(running::ready_setup(alloc, setup, shelf, seen));
+    }
+    is_fileless(words)
+}
+
 /// What stands before the command of words is done: nothing, or the reply with which it stops.
 fn ready<F: Shelf>(
     alloc: Global,
@@ -81,16 +103,7 @@ fn ready<F: Shelf>(
     if let Some((setup, trace)) = files_after("replay", words) {
         return done(replaying::ready(alloc, setup, trace, shelf, seen));
     }
-    if let Some(table) = file_after("narrow", words) {
-        return done(narrowing::ready(alloc, table, shelf, seen));
-    }
-    if let Some((setup, schedule)) = files_after("traffic", words) {
-        return done(running::ready(alloc, setup, schedule, shelf, seen));
-    }
-    if let Some((setup, _)) = file_and_seed_after("traffic", words) {
-        return done(running::ready_setup(alloc, setup, shelf, seen));
-    }
-    is_fileless(words)
+    ready_to_study(alloc, words, shelf, seen)
 }
 
 /// Lets go of what was made ready.

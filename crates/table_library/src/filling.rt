@@ -18,7 +18,7 @@ use no_memory::NoMemory;
 use std::alloc::Global;
 
 /// A source of the alternatives of each cell that a table of its version says itself.
-pub(crate) trait Cells {
+pub trait Cells {
     /// The version.
     ghost version: { Self → ℕ };
 
@@ -46,7 +46,7 @@ pub(crate) trait Cells {
 /// Appends an alternative to a local cell. The cell is never full, as it takes no more
 /// alternatives than one cell of another table has.
 #[tactic(auto, unfolding(crate::specs::Filling::with_locals))]
-pub(crate) fn push_local(
+pub fn push_local(
     table: &mut Table,
     state: State,
     event: LocalEvent,
@@ -64,7 +64,7 @@ pub(crate) fn push_local(
 
 /// Appends an alternative to an answer cell.
 #[tactic(auto, unfolding(crate::specs::Filling::with_answers))]
-pub(crate) fn push_answer(
+pub fn push_answer(
     table: &mut Table,
     state: State,
     event: BusEvent,
@@ -143,7 +143,7 @@ fn add_answers<C: Cells>(cells: &C, table: &mut Table, state: State) -> Result<(
 
 /// The table of this name and version with these cells.
 #[tactic(auto, using(crate::proofs::Filled::filled_empty))]
-pub(crate) fn filled_table<C: Cells>(
+pub fn filled_table<C: Cells>(
     alloc: Global,
     name: Name,
     version: u8,
