@@ -8,6 +8,9 @@ use fb_text::Text;
 use no_memory::NoMemory;
 use std::alloc::Global;
 
+/// The names of the tables of the library.
+const TABLES: [&str; 6] = ["cb", "up", "wt", "wb", "ex", "un"];
+
 /// Appends that there is no command of this name, and those that there are.
 fn say_no_command(text: &mut Text, word: &str) -> Result<(), NoMemory> {
     say(text, word)?;
@@ -17,13 +20,24 @@ fn say_no_command(text: &mut Text, word: &str) -> Result<(), NoMemory> {
     say_guess(text, word.as_bytes(), &NAMES)
 }
 
+/// Appends that the library has no table of this name, and those that it has.
+fn say_no_table(text: &mut Text, word: &str) -> Result<(), NoMemory> {
+    say(text, "The library has no table ")?;
+    say(text, word)?;
+    say(text, ". It has ")?;
+    choices(text, &TABLES)?;
+    say(text, ".\n")?;
+    say_guess(text, word.as_bytes(), &TABLES)
+}
+
 /// Appends what is wrong with the words of a command that are as many as it takes, where it is one
 /// of them.
 fn say_last(text: &mut Text, command: Command, words: &[String]) -> Result<(), NoMemory> {
     match (command, words) {
         (Command::Make | Command::Tally, [number]) => say_number(text, number.as_str().as_bytes()),
         (Command::Help, [name]) => say_no_command(text, name.as_str()),
-        (Command::Run, [_, seed, number]) => {
+        (Command::Library, [name]) => say_no_table(text, name.as_str()),
+        (Command::Run | Command::Traffic, [_, seed, number]) => {
             if seed.as_str() == "seed" {
                 return say_number(text, number.as_str().as_bytes());
             }

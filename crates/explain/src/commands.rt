@@ -10,14 +10,18 @@ pub enum Command {
     Replay,
     Make,
     Tally,
+    Library,
+    Narrow,
+    Traffic,
     Explain,
     Help,
     Version,
 }
 
 /// The names of the commands, in the order in which they are listed.
-pub const NAMES: [&str; 10] = [
-    "check", "show", "run", "race", "replay", "make", "tally", "explain", "help", "version",
+pub const NAMES: [&str; 13] = [
+    "check", "show", "run", "race", "replay", "make", "tally", "library", "narrow", "traffic",
+    "explain", "help", "version",
 ];
 
 impl Command {
@@ -31,6 +35,9 @@ impl Command {
             "replay" => Some(Command::Replay),
             "make" => Some(Command::Make),
             "tally" => Some(Command::Tally),
+            "library" => Some(Command::Library),
+            "narrow" => Some(Command::Narrow),
+            "traffic" => Some(Command::Traffic),
             "explain" => Some(Command::Explain),
             "help" | "-h" | "--help" => Some(Command::Help),
             "version" | "--version" => Some(Command::Version),
@@ -48,6 +55,9 @@ impl Command {
             Command::Replay => "replay SETUP TRACE",
             Command::Make => "make NUMBER",
             Command::Tally => "tally NUMBER",
+            Command::Library => "library NAME",
+            Command::Narrow => "narrow TABLE",
+            Command::Traffic => "traffic SETUP SCHEDULE, or SETUP seed NUMBER",
             Command::Explain => "explain WORDS, those of another command",
             Command::Help => "help [COMMAND]",
             Command::Version => "version",
@@ -57,10 +67,14 @@ impl Command {
     /// The least and the most words after the command's name.
     pub fn counts(self) -> (usize, usize) {
         match self {
-            Command::Check | Command::Show | Command::Race | Command::Make | Command::Tally => (
-                1, 1,
-            ),
-            Command::Run => (2, 3),
+            Command::Check
+            | Command::Show
+            | Command::Race
+            | Command::Make
+            | Command::Tally
+            | Command::Library
+            | Command::Narrow => (1, 1),
+            Command::Run | Command::Traffic => (2, 3),
             Command::Replay => (2, 2),
             Command::Explain => (1, 4),
             Command::Help => (0, 1),

@@ -8,7 +8,7 @@ ghost use Rattle.explain.specs.Extends.{Extends};
 
 use crate::asked::words_reason;
 use crate::files::{length_reason, unread_reason};
-use crate::texts::{schedule_reason, setup_reason, tables_reason};
+use crate::texts::{alone_reason, schedule_reason, setup_reason, tables_reason};
 use crate::trace::trace_reason;
 use fb_text::Text;
 use no_memory::NoMemory;
@@ -39,6 +39,14 @@ pub fn explain_tables(alloc: Global, bytes: &[u8], text: &mut Text) -> Result<()
     ensures none { OnErr result (text.new.bytes ≡ text.old.bytes) }
 {
     append(text, tables_reason(alloc, bytes))
+}
+
+/// Extends why a text is not one table, or why nothing of its table is in the class.
+pub fn explain_alone(alloc: Global, bytes: &[u8], text: &mut Text) -> Result<(), NoMemory>
+    ensures appends { Extends text.old.bytes text.new.bytes }
+    ensures none { OnErr result (text.new.bytes ≡ text.old.bytes) }
+{
+    append(text, alone_reason(alloc, bytes))
 }
 
 /// Extends why a text is no schedule of so many boards.

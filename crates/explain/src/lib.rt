@@ -27,8 +27,8 @@ mod verdict;
 mod wanted;
 
 pub use explaining::{
-    explain_length, explain_schedule, explain_setup, explain_tables, explain_trace, explain_unread,
-    explain_words,
+    explain_alone, explain_length, explain_schedule, explain_setup, explain_tables, explain_trace,
+    explain_unread, explain_words,
 };
 pub use no_memory::NoMemory;
 

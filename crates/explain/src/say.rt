@@ -30,6 +30,12 @@ pub fn counted(text: &mut Text, before: &str, value: u64, after: &str) -> Result
     say(text, after)
 }
 
+/// Appends a number and what it counts, with the ending of more than one where it is not 1.
+pub fn several(text: &mut Text, value: u64, name: &str, ending: &str) -> Result<(), NoMemory> {
+    counted(text, "", value, name)?;
+    say(text, if value == 1 { "" } else { ending })
+}
+
 /// Appends the first words with a comma between two of them, and `or` before the last.
 pub fn choices(text: &mut Text, words: &[&str]) -> Result<(), NoMemory> {
     let count = words.len();

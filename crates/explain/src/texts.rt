@@ -11,7 +11,7 @@ use crate::tables::read_tables;
 use crate::verdict::verdict_reason;
 use fb_text::Text;
 use no_memory::NoMemory;
-use setup_text::{read_book, read_setup};
+use setup_text::{SetupFault, read_book, read_setup, read_table_alone};
 use std::alloc::Global;
 
 /// Appends the line of a fault and its sentences, or the bytes that keep the line from being shown.
@@ -62,6 +62,30 @@ pub fn tables_reason(alloc: Global, bytes: &[u8]) -> Result<Text, NoMemory> {
         }
     }
     explanation(alloc, read_tables(alloc, bytes))
+}
+
+/// That a table begins where nothing is to stand.
+fn another_table(alloc: Global, line: u32) -> Result<Text, NoMemory> {
+    let mut text = Text::new(alloc);
+    counted(
+        &mut text,
+        "Line ",
+        u64::from(line),
+        " begins another table, and one is wanted.\n",
+    )?;
+    Ok(text)
+}
+
+/// Why a text is not one table, or why its table is refused. It is empty where it is not.
+pub fn alone_reason(alloc: Global, bytes: &[u8]) -> Result<Text, NoMemory> {
+    if is_short(bytes) {
+        if let Ok(_) = read_book(alloc, bytes) {
+            if let Err(SetupFault::Bad { line, .. }) = read_table_alone(alloc, bytes) {
+                return another_table(alloc, line);
+            }
+        }
+    }
+    tables_reason(alloc, bytes)
 }
 
 /// Why a text is no schedule of so many boards. It is empty where it is one.

@@ -4,7 +4,7 @@ use crate::expected::{At, say_data, say_drop, say_grant, say_local};
 use crate::reader::Reader;
 use crate::refusals::{say_connect, say_raise};
 use crate::replayed::{Stopped, follow};
-use crate::say::{counted, say, say_access};
+use crate::say::{counted, say, say_access, several};
 use crate::seen::Seen;
 use crate::texts::is_short;
 use backplane::assemble;
@@ -116,10 +116,11 @@ fn say_misspelled(text: &mut Text, at: At) -> Result<(), NoMemory> {
 /// Appends which board is unfinished, how many of its accesses are done, and its next one.
 fn say_unfinished(text: &mut Text, seen: &Seen, board: BoardNo) -> Result<(), NoMemory> {
     let events = seen.machine.journal().len() as u64;
-    counted(text, "The trace ends after ", events, " events. ")?;
-    counted(text, "Board ", u64::from(board.0), " has done ")?;
-    counted(text, "", seen.done(board) as u64, " of its ")?;
-    counted(text, "", seen.script(board).len() as u64, " accesses")?;
+    say(text, "The trace ends after ")?;
+    several(text, events, " event", "s")?;
+    counted(text, ". Board ", u64::from(board.0), " has done ")?;
+    several(text, seen.done(board) as u64, " access", "es")?;
+    counted(text, " of ", seen.script(board).len() as u64, "")?;
     if let Some(access) = seen.present(board) {
         say(text, "; its next is ")?;
         say_access(text, &access)?;

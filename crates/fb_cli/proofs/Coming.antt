@@ -9,18 +9,20 @@ use Rattle.fb_text.specs.Unread.{Unread as Text}
 use Rattle.setup_text.specs.Reading.{Fault}
 use Rattle.bus_model.specs.Setup.{Setup}
 use Rattle.fb_cli.specs.declared.answers.Answer.{Answer}
+use Rattle.fb_cli.specs.declared.answers.Answer.TheVariants.{Said, Ran, Replayed}
+use Rattle.fb_cli.specs.declared.answers.Outcome.{Outcome}
+use Rattle.fb_cli.specs.declared.answers.Outcome.TheVariants as outcomes
 use Rattle.fb_cli.specs.declared.answers.Refusal.TheVariants.{NoRow, Unread, NoMemory}
 use Rattle.fb_cli.specs.declared.answers.Reply.{Reply}
 use Rattle.fb_cli.specs.declared.answers.Reply.TheVariants.{Answered, Refused, Explained}
 use Rattle.fb_cli.specs.declared.role.Role.{Role}
-use Rattle.fb_cli.specs.Output.{Output, Files, on_read, with_file, within}
+use Rattle.fb_cli.specs.Output.{Output, Files, on_read, status_of, with_file, within}
 use Rattle.fb_cli.specs.Command.{AreSetup, Command, File, Follows, IsUnread, alone, file_on, known, on_files, printing, setup_file}
 use Rattle.fb_cli.specs.Replies.{Comes, Gives, Stops, StopsAt, answer_output}
 use Rattle.setup_text.specs.Writing.{written_setup}
 use Rattle.fb_cli.specs.Headline.{IsTextOfRun}
 use Rattle.fb_cli.specs.Show.{show}
-use Rattle.fb_cli.specs.Run.{AreTurns, played_text, run, run_seeded, turns_of}
-use Rattle.fb_cli.specs.Race.{race}
+use Rattle.fb_cli.specs.Run.{AreTurns, played_text, race, run, run_seeded, turns_of}
 use Rattle.fb_cli.proofs.Runs.{of_run}
 
 -- What follows of what is known, where something is known.
@@ -103,6 +105,12 @@ stops_second name role Fits asks wanted files A setup (Refused (Unread other)) r
 stops_second name role Fits asks wanted files A setup (Refused NoMemory) read fits same gives = tt
 stops_second name role Fits asks wanted files A setup (Explained refusal text) read fits same gives = absurd gives
 
+-- The outcome of an answer.
+pub outcome_of : (a : Answer) → (outcome : Outcome) × ((answer_output a).status ≡ status_of outcome)
+outcome_of (Said outcome text) = (outcome, refl)
+outcome_of (Ran machine room) = (outcomes.Done, refl)
+outcome_of (Replayed machine room) = (outcomes.Done, refl)
+
 -- What a command that tells its refusals alone comes to where it stops.
 pub stops_come :
     (opens : List File) (refusal : Files → Option Output) (prints : Files → List ℕ → Type 0) (files : Option Files)
@@ -110,13 +118,16 @@ pub stops_come :
     → Stops (refused_by opens refusal) files A reply
     → Comes (on_files opens refusal prints) files A reply
 stops_come opens refusal prints files A (Answered a) stops =
-    on_some (known opens files)
-    (λ bytes_of is.
-    subst (λ r. Follows alone (prints bytes_of) r (answer_output a)) (sym is) (refl, refl))
-    stops
+    inl (
+      outcome_of a,
+      on_some (known opens files)
+          (λ bytes_of is.
+          subst (λ r. Follows alone (prints bytes_of) r (answer_output a)) (sym is) (refl, refl))
+          stops,
+    )
 stops_come opens refusal prints files A (Refused NoRow) stops = absurd stops
-stops_come opens refusal prints files A (Refused (Unread role)) stops = (stops, refl)
-stops_come opens refusal prints files A (Refused NoMemory) stops = refl
+stops_come opens refusal prints files A (Refused (Unread role)) stops = inr (inl (role, stops, (refl, refl)))
+stops_come opens refusal prints files A (Refused NoMemory) stops = inr (inr refl)
 stops_come opens refusal prints files A (Explained refused text) stops = absurd stops
 
 -- What a command comes to that is not refused.
@@ -127,10 +138,13 @@ pub answer_comes :
     → IfSome (known opens files) (λ bytes_of. prints bytes_of (answer_output a).text)
     → Comes (on_files opens refusal prints) files A (Answered a)
 answer_comes opens refusal prints files A a free done printed =
-    on_both (known opens files)
-    (λ bytes_of is holds.
-    subst (λ r. Follows alone (prints bytes_of) r (answer_output a)) (sym is) (done, holds))
-    free printed
+    inl (
+      outcome_of a,
+      on_both (known opens files)
+          (λ bytes_of is holds.
+          subst (λ r. Follows alone (prints bytes_of) r (answer_output a)) (sym is) (done, holds))
+          free printed,
+    )
 
 -- A run of a setup by the turns of a schedule.
 pub run_comes :
@@ -148,7 +162,7 @@ run_comes name schedule files A setup turns (Ok a) free read is runs =
     (λ file r.
     (of_run (file name) setup (answer_output a).text r.0 runs, (turns, r.1, ap (λ (o : Output). o.text) is)))
     read)
-run_comes name schedule files A setup turns (Err e) free read is runs = refl
+run_comes name schedule files A setup turns (Err e) free read is runs = inr (inr refl)
 
 -- A run of a setup by the seeded schedule of a number.
 pub seeded_comes :
@@ -165,7 +179,7 @@ seeded_comes name seed files A setup (Ok a) free read is runs =
     (on_some files
     (λ file r. (of_run (file name) setup (answer_output a).text r runs, ap (λ (o : Output). o.text) is))
     read)
-seeded_comes name seed files A setup (Err e) free read is runs = refl
+seeded_comes name seed files A setup (Err e) free read is runs = inr (inr refl)
 
 -- A race of a setup.
 pub race_comes :
@@ -178,24 +192,26 @@ race_comes name files A setup (Ok a) free read done runs =
     let command = race name in
     answer_comes command.opens command.refusal command.prints files A a free done
     (on_some files (λ file r. of_run (file name) setup (answer_output a).text r runs) read)
-race_comes name files A setup (Err e) free read done runs = refl
+race_comes name files A setup (Err e) free read done runs = inr (inr refl)
 
 -- A command that opens no file, and prints what it came to.
 pub printing_comes :
     (wanted : List ℕ) (reply : Reply) → Gives (λ o. o ≡ record { status = 0; text = wanted }) (λ role. ⊥) reply
     → Comes (printing wanted) None ⊥ reply
-printing_comes wanted (Answered a) is = (ap (λ (o : Output). o.status) is, ap (λ (o : Output). o.text) is)
+printing_comes wanted (Answered a) is =
+    inl (outcome_of a, (ap (λ (o : Output). o.status) is, ap (λ (o : Output). o.text) is))
 printing_comes wanted (Refused NoRow) is = absurd is
 printing_comes wanted (Refused (Unread role)) is = absurd is
-printing_comes wanted (Refused NoMemory) is = refl
+printing_comes wanted (Refused NoMemory) is = inr (inr refl)
 printing_comes wanted (Explained refusal text) is = absurd is
 
 pub said_comes :
     {E : Type 0} (wanted : List ℕ) (came : Result Answer E)
     → IfOk came (λ a. answer_output a ≡ record { status = 0; text = wanted })
     → Comes (printing wanted) None ⊥ (option_map_or Answered (result_ok came) (Refused NoMemory))
-said_comes wanted (Ok a) is = (ap (λ (o : Output). o.status) is, ap (λ (o : Output). o.text) is)
-said_comes wanted (Err e) is = refl
+said_comes wanted (Ok a) is =
+    inl (outcome_of a, (ap (λ (o : Output). o.status) is, ap (λ (o : Output). o.text) is))
+said_comes wanted (Err e) is = inr (inr refl)
 
 -- The spelling of a setup of a file.
 pub shown_comes :
@@ -214,5 +230,5 @@ shown_comes name files A setup (Answered a) free read is =
     read)
 shown_comes name files A setup (Refused NoRow) free read is = absurd is
 shown_comes name files A setup (Refused (Unread role)) free read is = absurd is
-shown_comes name files A setup (Refused NoMemory) free read is = refl
+shown_comes name files A setup (Refused NoMemory) free read is = inr (inr refl)
 shown_comes name files A setup (Explained refusal text) free read is = absurd is

@@ -9,7 +9,7 @@ use Rattle.generator.specs.Generated.{generated}
 use Rattle.generator.specs.Schedule.{seeded_turns}
 use Rattle.tally.specs.Tally.{tally_text}
 use Rattle.fb_cli.specs.Run.{turns_of}
-use Rattle.fb_cli.specs.Tally.{counts_of}
+use Rattle.fb_cli.specs.Fileless.{counts_of}
 use Rattle.fb_cli.specs.Output.{Output}
 
 -- The journal of a machine of the generated setup, after the seeded schedule was played on it.

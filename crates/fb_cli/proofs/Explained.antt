@@ -1,5 +1,5 @@
 -- From what was found against a command, to what `explain` comes to.
-use Rattle.std.proofs.Common.{◌≡◌, ℕ, List, ◌∷◌, [], ◌++◌, Option, Some, None, Ok, Err, refl, ap, sym, ◌∙◌, subst, append-nil}
+use Rattle.std.proofs.Common.{◌≡◌, inl, inr, ℕ, List, ◌∷◌, [], ◌++◌, Option, Some, None, Ok, Err, refl, ap, sym, ◌∙◌, subst, append-nil}
 use Rattle.std.specs.Prelude.{IfSome, IfOk, Result, codes}
 use Rattle.std.specs.Option.{option_map_or}
 use Rattle.std.specs.Result.{result_ok}
@@ -11,8 +11,8 @@ use Rattle.fb_cli.specs.declared.answers.Reply.TheVariants.{Answered, Refused, E
 use Rattle.fb_cli.specs.Output.{Files, Refusal, refusal_output}
 use Rattle.fb_cli.specs.Command.{Command, Follows, Found, none, found, known, printing}
 use Rattle.fb_cli.specs.Explain.{explained}
-use Rattle.fb_cli.specs.Replies.{Comes, ComesTo, IsReady, answer_output}
-use Rattle.fb_cli.proofs.Coming.{on_some}
+use Rattle.fb_cli.specs.Replies.{Comes, ComesTo, IsReady, answer_output, reply_output}
+use Rattle.fb_cli.proofs.Coming.{on_some, outcome_of}
 
 -- What is printed where nothing is refused.
 abbrev pub no_fault : List ℕ
@@ -24,17 +24,16 @@ pub free_comes :
     → IsReady {X = X} asked files A (Ok x) → Comes (printing no_fault) None ⊥ reply
     → ComesTo (explained asked) files A reply
 free_comes (none Tells) files A x reply ready came = absurd cc
-free_comes (found command) files A x (Answered a) ready came =
-    on_some (known command.opens files)
-    (λ bytes_of is.
-    subst (λ r. Follows Extends (λ text. text ≡ no_fault) r (answer_output a)) (sym is) came)
-    ready
-free_comes (found command) files A x (Refused NoRow) ready came = absurd came
-free_comes (found command) files A x (Refused (Unread role)) ready came = absurd came.0
-free_comes (found command) files A x (Refused NoMemory) ready came = came
-free_comes (found command) files A x (Explained NoRow text) ready came = absurd came
-free_comes (found command) files A x (Explained (Unread role) text) ready came = absurd came.0
-free_comes (found command) files A x (Explained NoMemory text) ready came = came
+free_comes (found command) files A x reply ready (inl (outcome, said)) =
+    inl (
+      outcome,
+      on_some (known command.opens files)
+          (λ bytes_of is.
+          subst (λ r. Follows Extends (λ text. text ≡ no_fault) r (reply_output reply)) (sym is) said)
+          ready,
+    )
+free_comes (found command) files A x reply ready (inr (inl (role, unread, told))) = absurd unread
+free_comes (found command) files A x reply ready (inr (inr is)) = inr (inr is)
 
 -- The command stops with an answer, to which more is added.
 more_said :
@@ -45,11 +44,14 @@ more_said :
     → ComesTo (explained asked) files A (option_map_or Answered (result_ok came) (Refused NoMemory))
 more_said X (none Tells) files A a came ready same more = absurd cc
 more_said X (found command) files A a (Ok m) ready same more =
-    on_some (known command.opens files)
-    (λ bytes_of is.
-    subst (λ r. Follows Extends (λ text. text ≡ no_fault) r (answer_output m)) (sym is) (same, more))
-    ready
-more_said X (found command) files A a (Err e) ready same more = refl
+    inl (
+      outcome_of m,
+      on_some (known command.opens files)
+          (λ bytes_of is.
+          subst (λ r. Follows Extends (λ text. text ≡ no_fault) r (answer_output m)) (sym is) (same, more))
+          ready,
+    )
+more_said X (found command) files A a (Err e) ready same more = inr (inr refl)
 
 pub answer_more :
     {E : Type 0} (X : Type 0) (asked : Found) (files : Option Files) (A : Type 0) (a : Answer) (stop : Reply)

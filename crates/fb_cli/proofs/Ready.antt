@@ -7,14 +7,16 @@ use Rattle.fb_text.specs.Written.{Written}
 use Rattle.class_relation.specs.Tables.{Table}
 use Rattle.setup_text.specs.Reading.{Fault, schedule_at, setup_at}
 use Rattle.bus_model.specs.Setup.{Setup}
-use Rattle.backplane.specs.Machine.{Machine, opened}
+use Rattle.backplane.specs.Machine.{Machine, configuration, opened}
+use Rattle.replayer.specs.declared.fault.ReplayFault.{ReplayFault}
 use Rattle.replayer.specs.Replaying.{replayed}
-use Rattle.fb_cli.specs.declared.answers.Answer.TheVariants.{Said}
+use Rattle.fb_cli.specs.declared.answers.Answer.TheVariants.{Said, Replayed}
 use Rattle.fb_cli.specs.declared.answers.Outcome.TheVariants as outcomes
 use Rattle.fb_cli.specs.declared.answers.Refusal.TheVariants.{NoRow, Unread, NoMemory}
 use Rattle.fb_cli.specs.declared.answers.Reply.{Reply}
 use Rattle.fb_cli.specs.declared.answers.Reply.TheVariants.{Answered, Refused, Explained}
 use Rattle.fb_cli.specs.declared.role.Role.TheVariants as roles
+use Rattle.fb_cli.specs.declared.room.Room.{Room}
 use Rattle.fb_cli.specs.declared.running.Scheduled.{Scheduled}
 use Rattle.fb_cli.specs.Report.{is_accepted, report}
 use Rattle.fb_cli.specs.Output.{Output, Files, if_accepted, limit_of, on_read, with_file, within}
@@ -22,9 +24,8 @@ use Rattle.fb_cli.specs.Command.{AreSetup}
 use Rattle.fb_cli.specs.Replies.{Comes, Gives, Ready, Stops}
 use Rattle.fb_cli.specs.Check.{check, tables_at}
 use Rattle.fb_cli.specs.Show.{show}
-use Rattle.fb_cli.specs.Run.{AreTurns, run, turns_refusal}
-use Rattle.fb_cli.specs.Race.{race}
-use Rattle.fb_cli.specs.Replay.{on_replayed, replay, replay_refusal, trace_refusal}
+use Rattle.fb_cli.specs.Run.{AreTurns, race, run, turns_refusal}
+use Rattle.fb_cli.specs.Replay.{IsEnding, ending, on_replayed, replay, replay_refusal, trace_refusal}
 use Rattle.fb_cli.proofs.Alike.{if_accepted_is, is_within, with_accepted_is, with_setup_is}
 use Rattle.fb_cli.proofs.Coming.{answer_comes, on_both, on_some, stops_second}
 
@@ -165,3 +166,25 @@ replay_ready name trace files A setup (Err reply) read accepted free stops =
     stops_second name roles.Trace (λ s. list_all is_accepted s.tables ≡ true)
     (λ file. trace_refusal (opened setup) (file trace)) (replay name trace).refusal files A setup reply read accepted
     (λ file r. with_accepted_is (file name) setup (λ s. trace_refusal (opened s) (file trace)) r accepted) stops
+
+-- A trace that was replayed on an accepted setup of a file, and its ending printed.
+pub replay_comes :
+    (name trace : List ℕ) (files : Option Files) (A : Type 0) (setup : Setup) (machine : Machine) (room : Room)
+    → IfSome files (λ file. AreSetup setup (file name)) → list_all is_accepted setup.tables ≡ true
+    → IfSome files
+    (λ file. (length (file trace) ≤ limit_of roles.Trace) × (replayed (opened setup) (file trace) ≡ Ok machine))
+    → Comes (replay name trace) files A (Answered (Replayed machine room))
+replay_comes name trace files A setup machine room read accepted came =
+    let command = replay name trace in
+    let text = ending machine.setup machine.journal (configuration machine) in
+    answer_comes command.opens command.refusal command.prints files A (Replayed machine room)
+    (replay_free name trace files setup read accepted
+    (on_some files (λ file r. trace_free (opened setup) machine (file trace) r.0 r.1) came))
+    refl
+    (on_both files
+    (λ file r p.
+    subst (λ (x : Result Setup Fault). IfOk x (λ s. IsEnding (opened s) (file trace) text)) (sym r.1)
+    (subst
+    (λ (x : Result Machine ReplayFault). IfOk x (λ (m : Machine). text ≡ ending m.setup m.journal (configuration m)))
+    (sym p.1) refl))
+    read came)

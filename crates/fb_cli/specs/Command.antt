@@ -2,10 +2,9 @@
 use Rattle.std.specs.Io.KnownBytes.{Appends}
 use Rattle.fb_edge.specs.Outside.{AppendsFront}
 use Rattle.std.specs.Prelude.{◌≡◌, ◌⊎◌, ℕ, ◌≤◌, List, [], ◌∷◌, length, Option, None, Some, IfSome, Ok}
-use Rattle.std.specs.Option.{option_map_or}
 pub use Rattle.fb_text.specs.Unread.{unread}
 pub use Rattle.setup_text.specs.Reading.{setup_at}
-pub use Rattle.fb_cli.specs.Output.{Output, Files, Role, Refusal, Setup, is_accepted, limit_of, output, refusal_output, fault_output, within, on_read, with_file, if_accepted, with_accepted}
+pub use Rattle.fb_cli.specs.Output.{Output, Outcome, Files, Role, Refusal, Setup, is_accepted, limit_of, output, status_of, refusal_output, fault_output, within, on_read, with_file, if_accepted, with_accepted}
 
 -- A file that a command opens: its role, which sets its limit, and what has to hold of the files
 -- that were read before it.
@@ -48,30 +47,27 @@ on_files opens refusal prints =
 abbrev pub printing : List ℕ → Command
 printing wanted = on_files [] (λ bytes_of. None) (λ bytes_of text. text ≡ wanted)
 
--- An output with status 0 and such a text, or one that tells a refusal.
+-- An output that tells a refusal.
+abbrev pub IsTold : (List ℕ → List ℕ → Type 0) → Output → Output → Type 0
+IsTold Tells refusal o = (o.status ≡ refusal.status) × Tells refusal.text o.text
+
+-- An output with status 0 and such a text, or one that tells the refusal.
 abbrev pub Follows :
     (List ℕ → List ℕ → Type 0) → (List ℕ → Type 0) → Option Output → Output → Type 0
 Follows Tells Prints None o = (o.status ≡ 0) × Prints o.text
-Follows Tells Prints (Some refusal) o =
-    (o.status ≡ refusal.status) × Tells refusal.text o.text
-
--- An answer of a command on these files.
-abbrev pub IsAnswer : Command → Files → Output → Type 0
-IsAnswer command bytes_of =
-    Follows command.tells (command.prints bytes_of) (command.refusal bytes_of)
-
--- The status of a command on these files.
-abbrev pub status_on : Command → Files → ℕ
-status_on command bytes_of = option_map_or (λ (o : Output). o.status) (command.refusal bytes_of) 0
+Follows Tells Prints (Some refusal) o = IsTold Tells refusal o
 
 -- The files, as far as they are known. To a command that opens none, all that it needs is known.
 abbrev pub known : List File → Option Files → Option Files
 known [] files = Some (λ name. [])
 known (file ∷ more) files = files
 
--- It is an answer of the command, as far as the files are known.
+-- It is an answer of the command, as far as the files are known, with the status of an outcome.
 abbrev pub Asked : Command → Option Files → Output → Type 0
-Asked command files o = IfSome (known command.opens files) (λ bytes_of. IsAnswer command bytes_of o)
+Asked command files o =
+    ((outcome : Outcome) × (o.status ≡ status_of outcome))
+    × IfSome (known command.opens files)
+    (λ bytes_of. Follows command.tells (command.prints bytes_of) (command.refusal bytes_of) o)
 
 -- The file in this role was not read: it is one of these, what has to hold before it is opened
 -- holds, as far as the files are known, and the shelf failed.
@@ -81,63 +77,34 @@ IsUnread (file ∷ more) files shelf_rose role =
     ((role ≡ file.role) × IfSome files file.after × shelf_rose)
     ⊎ IsUnread more files shelf_rose role
 
--- An answer of the command has this status, and its text was taken.
-abbrev pub Taken : Command → Option Files → Option (List ℕ) → Option (List ℕ) → ℕ → Type 0
-Taken command files before after status =
-    (o : Output) × Asked command files o × (o.status ≡ status) × Appends before after o.text
-
--- A text that a command may print: that of an answer, of a file that was not read, or of want of
--- memory.
-abbrev pub Due : Command → Option Files → Type 0 → List ℕ → Type 0
-Due command files shelf_rose text =
-    ((o : Output) × Asked command files o × (text ≡ o.text))
+-- An output of a command: it is an answer, or tells that a file was not read, or that memory ran
+-- out.
+abbrev pub Ends : Command → Option Files → Type 0 → Output → Type 0
+Ends command files shelf_rose o =
+    Asked command files o
     ⊎ (((role : Role) × IsUnread command.opens files shelf_rose role
-    × command.tells (refusal_output (Refusal.Unread role)).text text)
-    ⊎ (text ≡ (refusal_output Refusal.NoMemory).text))
-
--- How a call that does a command ends: each status comes only where its field says. `before` and
--- `after` are what the sink took.
-pub record Answers (command : Command) (files : Option Files) (shelf_rose sink_rose : Type 0)
-    (before after : Option (List ℕ)) (status : ℕ) : Type 0 where
-  pub done : status ≡ 0 → Taken command files before after 0
-  pub refused : status ≡ 1 → Taken command files before after 1
-  pub matched : status ≡ 2 → ⊥
-  pub malformed : status ≡ 3 → Taken command files before after 3
-  pub unread :
-      status ≡ 4
-      → (role : Role) × IsUnread command.opens files shelf_rose role
-      × ((text : List ℕ) × command.tells (refusal_output (Refusal.Unread role)).text text
-      × Appends before after text)
-  pub unwritten :
-      status ≡ 5
-      → sink_rose
-      × ((text : List ℕ) × Due command files shelf_rose text × AppendsFront before after text)
-  pub no_memory : status ≡ 6 → Appends before after (refusal_output Refusal.NoMemory).text
-  pub too_long : status ≡ 7 → Taken command files before after 7
-  pub no_other : status ≤ 7
-  -- and it comes there, unless a count rose or memory ran out
-  pub exact :
-      IfSome (known command.opens files)
-      (λ bytes_of.
-      (shelf_rose → ⊥) → (sink_rose → ⊥) → (status ≡ status_on command bytes_of) ⊎ (status ≡ 6))
-
--- The text was taken whole and the status answered, or a write failed and 5 was answered.
-abbrev pub Written : Output → Type 0 → Option (List ℕ) → Option (List ℕ) → ℕ → Type 0
-Written o sink_rose before after status =
-    ((status ≡ o.status) × Appends before after o.text)
-    ⊎ ((status ≡ 5) × sink_rose × AppendsFront before after o.text)
+    × IsTold command.tells (refusal_output (Refusal.Unread role)) o)
+    ⊎ (o ≡ refusal_output Refusal.NoMemory))
 
 -- The command that words ask for, if they match a row, and else how they are refused.
 pub data Found : Type 1 where
   none : (List ℕ → List ℕ → Type 0) → Found
   found : Command → Found
 
--- How a call ends that does what words ask for. Words that match no row are refused, whatever the
--- files, and nothing but a failed write keeps status 2 away.
+-- An output of what words ask for. Words that match no row are refused, whatever the files.
+abbrev pub EndsAs : Found → Option Files → Type 0 → Output → Type 0
+EndsAs (none Tells) files shelf_rose o = IsTold Tells (refusal_output Refusal.NoRow) o
+EndsAs (found command) files shelf_rose o = Ends command files shelf_rose o
+
+-- The text was taken whole and the status answered, or a write failed and 5 was answered. `before`
+-- and `after` are what the sink took.
+abbrev pub Written : Output → Type 0 → Option (List ℕ) → Option (List ℕ) → ℕ → Type 0
+Written o sink_rose before after status =
+    ((status ≡ o.status) × Appends before after o.text)
+    ⊎ ((status ≡ 5) × sink_rose × AppendsFront before after o.text)
+
+-- How a call ends that does what words ask for: an output of it is written.
 abbrev pub Does :
     Found → Option Files → Type 0 → Type 0 → Option (List ℕ) → Option (List ℕ) → ℕ → Type 0
-Does (none Tells) files shelf_rose sink_rose before after status =
-    (text : List ℕ) × Tells (refusal_output Refusal.NoRow).text text
-    × Written (record { status = 2; text = text }) sink_rose before after status
-Does (found command) files shelf_rose sink_rose before after status =
-    Answers command files shelf_rose sink_rose before after status
+Does asked files shelf_rose sink_rose before after status =
+    (o : Output) × EndsAs asked files shelf_rose o × Written o sink_rose before after status

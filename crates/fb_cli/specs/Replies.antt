@@ -3,17 +3,9 @@ use Rattle.std.specs.Prelude.{◌≡◌, ℕ, List, Option, Some, None, IfSome, 
 use Rattle.backplane.specs.Machine.{configuration}
 use Rattle.setup_text.specs.declared.fault.SetupFault.{SetupFault}
 use Rattle.fb_cli.specs.declared.answers.Answer.{Answer}
-use Rattle.fb_cli.specs.declared.answers.Outcome.{Outcome}
 use Rattle.fb_cli.specs.declared.answers.Reply.{Reply}
-use Rattle.fb_cli.specs.Command.{Output, Files, Role, Refusal, refusal_output, fault_output, Command, Found, none, found, Asked, IsUnread, known}
+use Rattle.fb_cli.specs.Command.{Output, Files, Role, Refusal, refusal_output, status_of, fault_output, Command, Found, none, found, Ends, EndsAs, IsUnread, known}
 use Rattle.fb_cli.specs.Replay.{run_text, ending}
-
--- The status of an outcome.
-abbrev pub status_of : Outcome → ℕ
-status_of Outcome.Done = 0
-status_of Outcome.Refused = 1
-status_of Outcome.Malformed = 3
-status_of Outcome.TooLong = 7
 
 -- The output of an answer: what it says, the run of its machine, or the ending of that run.
 abbrev pub answer_output : Answer → Output
@@ -30,30 +22,12 @@ reply_output (Reply.Refused refusal) = refusal_output refusal
 reply_output (Reply.Explained refusal text) =
     record { status = (refusal_output refusal).status; text = text.bytes }
 
--- A text tells this refusal of a command: a file was not read, or memory ran out.
-abbrev pub IsRefused : Command → Option Files → Type 0 → Refusal → List ℕ → Type 0
-IsRefused command files shelf_rose Refusal.NoRow text = ⊥
-IsRefused command files shelf_rose (Refusal.Unread role) text =
-    IsUnread command.opens files shelf_rose role
-    × command.tells (refusal_output (Refusal.Unread role)).text text
-IsRefused command files shelf_rose Refusal.NoMemory text =
-    text ≡ (refusal_output Refusal.NoMemory).text
-
--- What a command comes to before it is printed.
+-- What a command, or what words ask for, comes to before it is printed.
 abbrev pub Comes : Command → Option Files → Type 0 → Reply → Type 0
-Comes command files shelf_rose (Reply.Answered answer) =
-    Asked command files (answer_output answer)
-Comes command files shelf_rose (Reply.Refused refusal) =
-    IsRefused command files shelf_rose refusal (refusal_output refusal).text
-Comes command files shelf_rose (Reply.Explained refusal text) =
-    IsRefused command files shelf_rose refusal text.bytes
+Comes command files shelf_rose reply = Ends command files shelf_rose (reply_output reply)
 
--- What words come to.
 abbrev pub ComesTo : Found → Option Files → Type 0 → Reply → Type 0
-ComesTo (none Tells) files shelf_rose reply =
-    ((reply_output reply).status ≡ 2)
-    × Tells (refusal_output Refusal.NoRow).text (reply_output reply).text
-ComesTo (found command) files shelf_rose reply = Comes command files shelf_rose reply
+ComesTo asked files shelf_rose reply = EndsAs asked files shelf_rose (reply_output reply)
 
 -- A reply is an answer of this kind, or it tells of a file in such a role that was not read, or
 -- that memory ran out.

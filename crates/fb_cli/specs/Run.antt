@@ -1,4 +1,4 @@
--- `run`: a setup played by a schedule, or by the seeded schedule of a number.
+-- `run`: a setup played by a schedule, or by the seeded schedule of a number. `race`: by threads.
 use Rattle.std.specs.Prelude.{◌≡◌, ◌≤◌, ℕ, List, [], ◌∷◌, length, Option, None, Ok}
 use Rattle.setup_text.specs.Reading.{schedule_at}
 use Rattle.bus_model.specs.Setup.{access_count}
@@ -50,3 +50,10 @@ run_seeded setup seed =
     (λ bytes_of. setup_refusal (bytes_of setup))
     (λ bytes_of text.
     (r : IsRunOf (bytes_of setup) text) × (text ≡ played_text r.setup (turns_of seed r.setup)))
+
+-- `race` on a file: it is refused as a run is, and prints some complete run.
+abbrev pub race : (setup : List ℕ) → Command
+race setup =
+    on_files (setup_file ∷ [])
+    (λ bytes_of. setup_refusal (bytes_of setup))
+    (λ bytes_of text. IsRunOf (bytes_of setup) text)

@@ -5,7 +5,7 @@ ghost use Rattle.fb_edge.specs.Outside.{Rose};
 ghost use Rattle.explain.specs.Extends.{Extends};
 ghost use Rattle.fb_cli.specs.Output.{refusal_output};
 ghost use Rattle.fb_cli.specs.Explain.{explained};
-ghost use Rattle.fb_cli.specs.Rows.{command_in, explained_rows, fileless_rows};
+ghost use Rattle.fb_cli.specs.Rows.{command_in, explained_rows, fileless_rows, study_rows};
 ghost use Rattle.fb_cli.specs.Replies.{ComesTo, IsReady, answer_output, let_go};
 
 use crate::answers::{Answer, Outcome, Refusal, Reply, refusal_line};
@@ -14,13 +14,13 @@ use crate::helping::say;
 use crate::opening::limit_of;
 use crate::role::Role;
 use crate::rows::{
-    alone_is, file_after, file_and_seed_after, files_after, page_after, seed_after, words_after,
+    file_after, file_and_seed_after, files_after, kind_after, page_after, seed_after, text_alone,
 };
 use crate::seen::Seen;
-use crate::{checking, replaying, running, showing};
+use crate::{checking, narrowing, replaying, running, showing};
 use explain::{
-    explain_length, explain_schedule, explain_setup, explain_tables, explain_trace, explain_unread,
-    explain_words,
+    explain_alone, explain_length, explain_schedule, explain_setup, explain_tables, explain_trace,
+    explain_unread, explain_words,
 };
 use fb_edge::Shelf;
 use fb_text::Text;
@@ -41,25 +41,38 @@ fn is_fileless(words: &[String]) -> Result<(), Reply>
     if let Some(_) = seed_after("tally", words) {
         return Ok(());
     }
-    if let Some(_) = alone_is("help", words) {
+    if let Some(_) = kind_after("library", words) {
         return Ok(());
     }
-    if let Some(_) = alone_is("-h", words) {
-        return Ok(());
-    }
-    if let Some(_) = alone_is("--help", words) {
+    if let Some(_) = text_alone(words) {
         return Ok(());
     }
     if let Some(_) = page_after("help", words) {
         return Ok(());
     }
-    if let Some(_) = alone_is("version", words) {
-        return Ok(());
-    }
-    if let Some(_) = alone_is("--version", words) {
-        return Ok(());
-    }
     Err(Reply::Refused(Refusal::NoRow))
+}
+
+/// What stands before a table or a run is studied is done, or before a command that opens no file.
+fn ready_to_study<F: Shelf>(
+    alloc: Global,
+    words: &[String],
+    shelf: &mut F,
+    seen: &mut Seen,
+) -> Result<(), Reply>
+    ensures { IsReady (command_in study_rows (map string_bytes words.now)) (F.file shelf.old)
+        (Rose (F.faults shelf.old) (F.faults shelf.new)) result }
+{
+    if let Some(table) = file_after("narrow", words) {
+        return done(narrowing::ready(alloc, table, shelf, seen));
+    }
+    if let Some((setup, schedule)) = files_after("traffic", words) {
+        return done(running::ready(alloc, setup, schedule, shelf, seen));
+    }
+    if let Some((setup, _)) = file_and_seed_after("traffic", words) {
+        return done(running::ready_setup(alloc, setup, shelf, seen));
+    }
+    is_fileless(words)
 }
 
 /// What stands before the command of words is done: nothing, or the reply with which it stops.
@@ -90,7 +103,7 @@ fn ready<F: Shelf>(
     if let Some((setup, trace)) = files_after("replay", words) {
         return done(replaying::ready(alloc, setup, trace, shelf, seen));
     }
-    is_fileless(words)
+    ready_to_study(alloc, words, shelf, seen)
 }
 
 /// Lets go of what was made ready.
@@ -115,6 +128,14 @@ fn name_of(words: &[String], role: Role) -> &str {
     }
 }
 
+/// Whether a word is the first one.
+fn begin_with(words: &[String], name: &str) -> bool {
+    match words.first() {
+        Some(word) => word.as_str() == name,
+        None => false,
+    }
+}
+
 /// Appends why a setup or a text of tables is refused.
 fn explain_first(
     alloc: Global,
@@ -124,11 +145,10 @@ fn explain_first(
 ) -> Result<(), NoMemory>
     ensures { Extends text.old.bytes text.new.bytes }
 {
-    let checks = match words.first() {
-        Some(word) => word.as_str() == "check",
-        None => false,
-    };
-    if checks && bytes.len() < 2_147_483_648 && is_book(bytes) {
+    if begin_with(words, "narrow") {
+        return explain_alone(alloc, bytes, text);
+    }
+    if begin_with(words, "check") && bytes.len() < 2_147_483_648 && is_book(bytes) {
         return explain_tables(alloc, bytes, text);
     }
     explain_setup(alloc, bytes, text)

@@ -1,7 +1,6 @@
 //! `help` and `version`: what the program says of itself.
 
 ghost use Rattle.std.specs.Prelude.{◌≡◌, None, IfOk};
-ghost use Rattle.usage.specs.Usage.{help_text, version_text};
 ghost use Rattle.fb_cli.specs.Command.{printing};
 ghost use Rattle.fb_cli.specs.Replies.{Comes, answer_output};
 
@@ -9,7 +8,6 @@ use crate::answers::{Answer, Outcome, Reply};
 use fb_text::Text;
 use no_memory::NoMemory;
 use std::alloc::Global;
-use usage::{help_text, version_text};
 
 #[cfg(test)]
 mod tests;
@@ -33,18 +31,4 @@ pub fn say(alloc: Global, words: &str) -> Reply
     ensures { Comes (printing words.now) None ⊥ result }
 {
     Reply::of(saying(alloc, words))
-}
-
-/// Does `help`.
-pub fn help(alloc: Global) -> Reply
-    ensures { Comes (printing help_text) None ⊥ result }
-{
-    say(alloc, help_text())
-}
-
-/// Does `version`.
-pub fn version(alloc: Global) -> Reply
-    ensures { Comes (printing version_text) None ⊥ result }
-{
-    say(alloc, version_text())
 }

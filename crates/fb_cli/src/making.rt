@@ -1,7 +1,7 @@
 //! `make`: the written spelling of the generated setup of a number.
 
 ghost use Rattle.std.specs.Prelude.{None};
-ghost use Rattle.fb_cli.specs.Make.{make};
+ghost use Rattle.fb_cli.specs.Fileless.{make};
 ghost use Rattle.fb_cli.specs.Replies.{Comes};
 
 use crate::answers::{Refusal, Reply};

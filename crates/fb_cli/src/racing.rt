@@ -4,7 +4,7 @@ ghost use Rattle.std.specs.Prelude.{◌≡◌, true, IfOk};
 ghost use Rattle.std.specs.List.{list_all};
 ghost use Rattle.fb_edge.specs.Outside.{Rose};
 ghost use Rattle.fb_cli.specs.Report.{is_accepted};
-ghost use Rattle.fb_cli.specs.Race.{race};
+ghost use Rattle.fb_cli.specs.Run.{race};
 ghost use Rattle.fb_cli.specs.Headline.{IsTextOfRun};
 ghost use Rattle.fb_cli.specs.Replies.{Comes, answer_output};
 

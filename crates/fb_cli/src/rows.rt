@@ -1,10 +1,12 @@
 //! What the words of a command line name after a first word.
 
-ghost use Rattle.std.specs.Prelude.{◌≡◌, ℕ, List, map, string_bytes, option_map};
-ghost use Rattle.fb_cli.specs.Rows.{alone_is, file_after, file_and_seed_after, files_after, page_after, seed_after, seed_of, words_after};
+ghost use Rattle.std.specs.Prelude.{◌≡◌, ℕ, List, Some, map, string_bytes, option_map};
+ghost use Rattle.table_library.specs.Protocols.{kind_named};
+ghost use Rattle.fb_cli.specs.Rows.{after, one, one_and_seed, page_of, seed_of, text_in, texts, two, words_after};
 
 use fb_text::number_within;
-use usage::page_named;
+use table_library::{Kind, kind_of};
+use usage::{help_text, page_named, version_text};
 
 /// The number that a word spells, if it is one of 64 bits.
 fn seed_of(word: &str) -> Option<u64>
@@ -27,35 +29,13 @@ pub fn words_after<'a>(name: &str, words: &'a [String]) -> Option<&'a [String]>
     }
 }
 
-/// No word.
-pub fn alone_is<'a>(name: &str, words: &'a [String]) -> Option<&'a str>
-    ensures { option_map (λ word. word.now) result
-        ≡ alone_is name.now (map string_bytes words.now) }
-{
-    match words {
-        [word] if word.as_str() == name => Some(word.as_str()),
-        _ => None,
-    }
-}
-
-/// The page of a command.
-pub fn page_after(name: &str, words: &[String]) -> Option<&'static str>
-    ensures { option_map (λ page. page.now) result
-        ≡ page_after name.now (map string_bytes words.now) }
-{
-    match words {
-        [word, command] if word.as_str() == name => page_named(command.as_str()),
-        _ => None,
-    }
-}
-
 /// The name of a file.
 pub fn file_after<'a>(name: &str, words: &'a [String]) -> Option<&'a str>
     ensures { option_map (λ file. file.now) result
-        ≡ file_after name.now (map string_bytes words.now) }
+        ≡ after name.now (one Some) (map string_bytes words.now) }
 {
-    match words {
-        [word, file] if word.as_str() == name => Some(file.as_str()),
+    match words_after(name, words) {
+        Some([file]) => Some(file.as_str()),
         _ => None,
     }
 }
@@ -63,20 +43,30 @@ pub fn file_after<'a>(name: &str, words: &'a [String]) -> Option<&'a str>
 /// The names of two files.
 pub fn files_after<'a>(name: &str, words: &'a [String]) -> Option<(&'a str, &'a str)>
     ensures { option_map {U = List ℕ × List ℕ} (λ files. (files.0.now, files.1.now)) result
-        ≡ files_after name.now (map string_bytes words.now) }
+        ≡ after name.now two (map string_bytes words.now) }
 {
-    match words {
-        [word, file, other] if word.as_str() == name => Some((file.as_str(), other.as_str())),
+    match words_after(name, words) {
+        Some([file, other]) => Some((file.as_str(), other.as_str())),
         _ => None,
     }
 }
 
 /// A number.
 pub fn seed_after(name: &str, words: &[String]) -> Option<u64>
-    ensures { result ≡ seed_after name.now (map string_bytes words.now) }
+    ensures { result ≡ after name.now (one seed_of) (map string_bytes words.now) }
 {
-    match words {
-        [word, number] if word.as_str() == name => seed_of(number.as_str()),
+    match words_after(name, words) {
+        Some([number]) => seed_of(number.as_str()),
+        _ => None,
+    }
+}
+
+/// A protocol.
+pub fn kind_after(name: &str, words: &[String]) -> Option<Kind>
+    ensures { result ≡ after name.now (one kind_named) (map string_bytes words.now) }
+{
+    match words_after(name, words) {
+        Some([kind]) => kind_of(kind.as_bytes()),
         _ => None,
     }
 }
@@ -95,12 +85,45 @@ fn with_seed<'a>(file: &'a str, number: &str) -> Option<(&'a str, u64)>
 /// The name of a file and, after the word `seed`, a number.
 pub fn file_and_seed_after<'a>(name: &str, words: &'a [String]) -> Option<(&'a str, u64)>
     ensures { option_map {U = List ℕ × ℕ} (λ named. (named.0.now, named.1)) result
-        ≡ file_and_seed_after name.now (map string_bytes words.now) }
+        ≡ after name.now one_and_seed (map string_bytes words.now) }
 {
-    match words {
-        [word, file, seed, number] if word.as_str() == name && seed.as_str() == "seed" => {
+    match words_after(name, words) {
+        Some([file, seed, number]) if seed.as_str() == "seed" => {
             with_seed(file.as_str(), number.as_str())
         }
+        _ => None,
+    }
+}
+
+/// The page of a command.
+pub fn page_after(name: &str, words: &[String]) -> Option<&'static str>
+    ensures { option_map (λ page. page.now) result
+        ≡ after name.now (one page_of) (map string_bytes words.now) }
+{
+    match words_after(name, words) {
+        Some([command]) => page_named(command.as_str()),
+        _ => None,
+    }
+}
+
+/// The text that a word asks for.
+fn text_named(word: &str) -> Option<&'static str>
+    ensures { option_map (λ text. text.now) result ≡ text_in texts word.now }
+{
+    match word {
+        "help" | "-h" | "--help" => Some(help_text()),
+        "version" | "--version" => Some(version_text()),
+        _ => None,
+    }
+}
+
+/// The text that one word asks for.
+pub fn text_alone(words: &[String]) -> Option<&'static str>
+    ensures { option_map (λ text. text.now) result
+        ≡ one (text_in texts) (map string_bytes words.now) }
+{
+    match words {
+        [word] => text_named(word.as_str()),
         _ => None,
     }
 }

@@ -5,8 +5,7 @@ ghost use Rattle.std.specs.List.{AllByRecursion, list_all};
 ghost use Rattle.fb_edge.specs.Outside.{Rose};
 ghost use Rattle.fb_cli.specs.Report.{is_accepted};
 ghost use Rattle.fb_cli.specs.Command.{AreSetup};
-ghost use Rattle.fb_cli.specs.Run.{AreTurns, played_text, run, run_seeded, turns_of, turns_refusal};
-ghost use Rattle.fb_cli.specs.Race.{race};
+ghost use Rattle.fb_cli.specs.Run.{AreTurns, played_text, race, run, run_seeded, turns_of, turns_refusal};
 ghost use Rattle.fb_cli.specs.Headline.{IsTextOfRun};
 ghost use Rattle.fb_cli.specs.Replies.{Comes, Gives, Ready, answer_output};
 

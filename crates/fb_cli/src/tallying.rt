@@ -4,7 +4,7 @@ ghost use Rattle.std.specs.Prelude.{◌≡◌, None, true, IfOk};
 ghost use Rattle.std.specs.List.{list_all};
 ghost use Rattle.generator.specs.Generated.{generated};
 ghost use Rattle.fb_cli.specs.Report.{is_accepted};
-ghost use Rattle.fb_cli.specs.Tally.{counts_of, tally};
+ghost use Rattle.fb_cli.specs.Fileless.{counts_of, tally};
 ghost use Rattle.fb_cli.specs.Replies.{Comes, answer_output};
 
 use crate::answers::{Answer, Outcome, Reply};

@@ -17,7 +17,7 @@ use no_memory::NoMemory;
 use std::alloc::Global;
 
 /// A source of the alternatives of each cell.
-pub(crate) trait Cells {
+pub trait Cells {
     /// The alternatives of each cell of a local event.
     ghost locals: { Self → State → LocalEvent → List LocalAction };
 
@@ -38,7 +38,7 @@ pub(crate) trait Cells {
 /// Appends an alternative to a local cell. The cell is never full, as it takes no more
 /// alternatives than one cell of another table has.
 #[tactic(auto, unfolding(crate::specs::Filling::with_locals))]
-pub(crate) fn push_local(
+pub fn push_local(
     table: &mut Table,
     state: State,
     event: LocalEvent,
@@ -54,7 +54,7 @@ pub(crate) fn push_local(
 
 /// Appends an alternative to an answer cell.
 #[tactic(auto, unfolding(crate::specs::Filling::with_answers))]
-pub(crate) fn push_answer(
+pub fn push_answer(
     table: &mut Table,
     state: State,
     event: BusEvent,
@@ -90,11 +90,7 @@ fn add_answers<C: Cells>(cells: &C, table: &mut Table, state: State) -> Result<(
 
 /// The table of this name with these cells.
 #[tactic(auto, using(crate::proofs::Filled::filled_empty))]
-pub(crate) fn filled_table<C: Cells>(
-    alloc: Global,
-    name: Name,
-    cells: &C,
-) -> Result<Table, NoMemory>
+pub fn filled_table<C: Cells>(alloc: Global, name: Name, cells: &C) -> Result<Table, NoMemory>
     ensures { IfOk result (λ table. table
         ≡ table_by name (C.locals cells.now) (C.answers cells.now)) }
 {

@@ -20,10 +20,11 @@ mod tests;
 
 pub use counting::traffic;
 pub use counts::Counts;
+pub use filling::{Cells, filled_table, push_answer, push_local};
 pub use kinds::{KINDS, Kind, kind_of};
 pub use laws::kept_states_are_greatest;
 pub use lines::write_traffic;
 pub use narrowing::narrow;
 pub use no_memory::NoMemory;
 pub use report::Traffic;
-pub use tables::library;
+pub use tables::{library, table_of};

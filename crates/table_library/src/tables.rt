@@ -82,9 +82,9 @@ fn name_of(kind: Kind) -> Name
     }
 }
 
-/// The table of a protocol.
+/// The table of a protocol, as a table of any kind.
 #[tactic(auto, using(crate::proofs::LibraryLaws::by_its_cells))]
-fn table_of(alloc: Global, kind: Kind) -> Result<Table, NoMemory>
+pub fn table_of(alloc: Global, kind: Kind) -> Result<Table, NoMemory>
     ensures { IfOk result (λ table. table ≡ protocol_table kind) }
 {
     filled_table(alloc, name_of(kind), &kind)

@@ -48,6 +48,20 @@ file_pages =
       example = codes "race examples/tour.setup";
       statuses = codes "0 1 3 4 5 6 7";
     }
+    ∷ record {
+      name = codes "narrow";
+      words = codes "narrow TABLE";
+      does = codes "prints the largest part of a table that is in the class";
+      example = codes "narrow examples/half-exclusive.table";
+      statuses = codes "0 3 4 5 6 7 9";
+    }
+    ∷ record {
+      name = codes "traffic";
+      words = codes "traffic SETUP SCHEDULE, or traffic SETUP seed NUMBER";
+      does = codes "counts what crossed the bus in a run";
+      example = codes "traffic examples/mixture.setup seed 1";
+      statuses = codes "0 1 3 4 5 6 7";
+    }
     ∷ []
 
 -- The other commands.
@@ -68,11 +82,18 @@ other_pages =
       statuses = codes "0 5 6";
     }
     ∷ record {
+      name = codes "library";
+      words = codes "library NAME";
+      does = codes "prints the table of a known protocol: cb, up, wt, wb, ex or un";
+      example = codes "library cb";
+      statuses = codes "0 5 6";
+    }
+    ∷ record {
       name = codes "explain";
       words = codes "explain WORDS";
       does = codes "says why the command of these words is refused";
       example = codes "explain check examples/silent-sharer.table";
-      statuses = codes "0 1 2 3 4 5 6 7";
+      statuses = codes "0 1 2 3 4 5 6 7 9";
     }
     ∷ record {
       name = codes "help";
@@ -105,6 +126,7 @@ statuses =
     ∷ codes "status 5: the output was not written"
     ∷ codes "status 6: memory ran out"
     ∷ codes "status 7: a file is too long"
+    ∷ codes "status 9: no part of a table is in the class"
     ∷ []
 
 -- A line of text.

@@ -18,8 +18,11 @@ pub fn help_text() -> &'static str
      prints the run of a setup by a schedule, or by drawn turns\n\
      replay SETUP TRACE: prints the ending of the run that a trace tells\n\
      race SETUP: prints a run of a setup in which each board has a thread\n\
+     narrow TABLE: prints the largest part of a table that is in the class\n\
+     traffic SETUP SCHEDULE, or traffic SETUP seed NUMBER: counts what crossed the bus in a run\n\
      make NUMBER: prints the generated setup of a number\n\
      tally NUMBER: prints counts over a run of the generated setup of a number\n\
+     library NAME: prints the table of a known protocol: cb, up, wt, wb, ex or un\n\
      explain WORDS: says why the command of these words is refused\n\
      help, or help COMMAND: lists the commands, or says what one takes\n\
      version: prints the version, and the kit that proves the program\n\
@@ -31,6 +34,7 @@ pub fn help_text() -> &'static str
      status 5: the output was not written\n\
      status 6: memory ran out\n\
      status 7: a file is too long\n\
+     status 9: no part of a table is in the class\n\
      documents: README.md, docs/TEXTS.md, docs/MODEL.md, docs/PROOFS.md\n"
 }
 
@@ -73,6 +77,16 @@ pub fn page_named(name: &str) -> Option<&'static str>
              example: ./futurebus race examples/tour.setup\n\
              statuses: 0 1 3 4 5 6 7\n",
         ),
+        "narrow" => Some(
+            "narrow TABLE: prints the largest part of a table that is in the class\n\
+             example: ./futurebus narrow examples/half-exclusive.table\n\
+             statuses: 0 3 4 5 6 7 9\n",
+        ),
+        "traffic" => Some(
+            "traffic SETUP SCHEDULE, or traffic SETUP seed NUMBER: counts what crossed the bus in a run\n\
+             example: ./futurebus traffic examples/mixture.setup seed 1\n\
+             statuses: 0 1 3 4 5 6 7\n",
+        ),
         _ => other_page_named(name),
     }
 }
@@ -92,10 +106,15 @@ fn other_page_named(name: &str) -> Option<&'static str>
              example: ./futurebus tally 1\n\
              statuses: 0 5 6\n",
         ),
+        "library" => Some(
+            "library NAME: prints the table of a known protocol: cb, up, wt, wb, ex or un\n\
+             example: ./futurebus library cb\n\
+             statuses: 0 5 6\n",
+        ),
         "explain" => Some(
             "explain WORDS: says why the command of these words is refused\n\
              example: ./futurebus explain check examples/silent-sharer.table\n\
-             statuses: 0 1 2 3 4 5 6 7\n",
+             statuses: 0 1 2 3 4 5 6 7 9\n",
         ),
         "help" => Some(
             "help, or help COMMAND: lists the commands, or says what one takes\n\

@@ -14,7 +14,7 @@ fn traces_are_explained(rt: HostRuntime) -> Result<(), Fail> {
         (
             "",
             "The trace ends after 0 events. \
-             Board 1 has done 0 of its 1 accesses; its next is read 0.\n",
+             Board 1 has done 0 accesses of 1; its next is read 0.\n",
         ),
         (
             "raise 1\nraise 1\n",

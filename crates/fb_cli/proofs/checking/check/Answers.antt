@@ -5,7 +5,7 @@ use Rattle.fb_cli.proofs.checking.check.Goals as goal
 
 pub returns-in-Ok : goal.returns-in-Ok
 returns-in-Ok g c =
-    check_comes c.args.name.now (g.F.Shelf.file c.args.shelf.now) (Unit {0}) c.in-Ok.text c.in-Ok.ensures.ready
+    check_comes c.args.name.now (g.F.Shelf.file c.args.shelf.now) _ c.in-Ok.text c.in-Ok.ensures.ready
     c.in-Ok.ensures.report
 
 pub returns : goal.returns

@@ -1,4 +1,4 @@
-use Rattle.fb_cli.specs.Race.{race}
+use Rattle.fb_cli.specs.Run.{race}
 use Rattle.fb_cli.proofs.Coming.{race_comes, stops_come}
 use Rattle.fb_cli.proofs.racing.race_file.Goals as goal
 

@@ -1,7 +1,7 @@
 use Rattle.std.proofs.Common.{None, subst, sym}
 use Rattle.fb_cli.specs.declared.answers.Reply.{Reply}
 use Rattle.fb_cli.specs.Replies.{Comes}
-use Rattle.fb_cli.specs.Tally.{counts_of, tally}
+use Rattle.fb_cli.specs.Fileless.{counts_of, tally}
 use Rattle.fb_cli.proofs.Coming.{said_comes}
 use Rattle.fb_cli.proofs.tallying.tally.Goals as goal
 
