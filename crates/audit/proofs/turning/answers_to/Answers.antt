@@ -8,7 +8,7 @@ pub loop-place-preserved : goal.loop-place-preserved
 loop-place-preserved c =
     let i = c.loop-place.invariant in
     let e = c.ask.ensures in
-    let b = c.boards-place-end.ensures.boards in
+    let b = ap length c.boards.ensures.boards in
     let t = c.loop-place-test.true in
     record {
       answers =
@@ -25,7 +25,7 @@ loop-place-preserved c =
 pub returns : goal.returns
 returns c =
     let i = c.loop-place.invariant in
-    let b = c.boards-place-end.ensures.boards in
+    let b = ap length c.boards.ensures.boards in
     let t = c.loop-place-test.false in
     i.answers
     ∙ ap (map (answer_from c.args.setup.now (shown c.args.parts.now) c.args.line c.args.event))
