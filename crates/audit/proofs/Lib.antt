@@ -30,3 +30,4 @@ pub mod Found
 pub mod TurnCases
 pub mod Taking
 pub mod ExhibitsFit
+pub mod Latest
