@@ -1,7 +1,0 @@
-use Rattle.audit.proofs.effects.carry.Goals as goal
-
-pub complete-requires : goal.complete-requires
-complete-requires c = ?
-
-pub returns : goal.returns
-returns c = ?
