@@ -23,7 +23,7 @@ returns-in-Ok-None-clause-ready g c =
     rw c.of.ensures
     (narrow_stops c.args.name.now (g.F.Shelf.file c.args.shelf.now) _ c.in-Ok.table c.nothing_left.result
     c.in-Ok.ensures.within c.in-Ok.ensures.table (sym c.in-Ok-None.field-0-is ∙ c.in-Ok-None.ensures)
-    (subst (SaysNone c.nothing_left.result) c.name.ensures c.nothing_left.ensures))
+    (subst (SaysNone c.nothing_left.result) c.name.ensures.name c.nothing_left.ensures))
 
 pub returns-clause-ready : goal.returns-clause-ready
 returns-clause-ready g c =
