@@ -6,7 +6,8 @@ import collections
 import typing
 
 from fbharm import FALLBACK
-from fbtrace import ACCESSES, EVENTS, STATES, Unfit
+from fbtable import table_lines
+from fbtrace import Unfit
 
 # What the words of memory are at first. No word is 0, since a copy that comes from nowhere has words 0.
 FIRST_WORD = 100
@@ -104,21 +105,12 @@ def named_apart(boards):
         yield board._replace(name=name)
 
 
-def table_text(board):
-    yield f"table {board.name}\n"
-    for state in STATES:
-        for event in (*ACCESSES, *EVENTS):
-            if alternatives := board.cells.get((state, event)):
-                yield f"{state} {event} = {' | '.join(alternatives)}\n"
-    yield "end\n"
-
-
 def setup_text(boards, scripts):
     yield "memory 1\n"
     for word in range(4):
         yield f"word {word} {FIRST_WORD + word}\n"
     for board in {board.name: board for board in boards}.values():
-        yield from table_text(board)
+        yield from table_lines(board.name, board.cells)
     for place, (board, script) in enumerate(zip(boards, scripts), 1):
         shape = "plain" if board.is_plain else "cached 1 1"
         yield f"board {place} number {11 - place} table {board.name} {shape} choose {board.choose}\n"
