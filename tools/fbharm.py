@@ -1,19 +1,20 @@
-"""Searches for harm that tables do: one line of memory, of which two words are used, a few boards, and one access after
-another, each with its whole transaction. Of a word is kept only whether it is the latest one, so there are few
-configurations, and a search over them ends.
+"""Searches for harm that tables do: one line of memory, of which two words are used, a few boards,
+and one access after another, each with its whole transaction. Of a word is kept only whether it is
+the latest one, so there are few configurations, and a search over them ends.
 
-A step is one of `futurebus audit`, computed once more after docs/MODEL.md. Nothing rests on that: what a search finds
-is played and judged by `audit`."""
+A move is that of `futurebus audit`, computed once more after docs/MODEL.md. Nothing rests on that:
+what a search finds is played and judged by `audit`."""
 
 import collections
 import functools
 import itertools
 import typing
 
-from fbtrace import ACCESSES, EVENTS, LINE_READS, LINE_WRITES, NEVER
+from fbtrace import ACCESSES, EVENTS, LINE_READS, LINE_WRITES, NEVER, WORD_READS
 
+WORD_WRITES = frozenset(event for event, row in EVENTS.items() if row[3] == "word")
 BROADCASTS = frozenset(event for event, row in EVENTS.items() if row[2])
-PLAIN_WRITES = frozenset(event for event, row in EVENTS.items() if row[3] == "word") - BROADCASTS
+PLAIN_WRITES = WORD_WRITES - BROADCASTS
 WORDS = (0, 1)
 NO_COPY = ("I", (False, False))
 # What a board does for an access for which its table has no alternative.
@@ -21,7 +22,8 @@ FALLBACK = {"read": "I urd", "write": "I uwr", "pass": "I", "flush": "I"}
 
 
 class Local(typing.NamedTuple):
-    """An alternative for an access: its text, the state where CH is asserted and where it is not, and the bus event."""
+    """An alternative for an access: its text, the states where CH is asserted and where it is not,
+    and the bus event."""
 
     text: str
     hit: str
@@ -40,8 +42,9 @@ class Answer(typing.NamedTuple):
 
 
 class Move(typing.NamedTuple):
-    """An access of a board, told by its index: the access, its word, the bus event, and the cells that were used, with
-    the alternatives: the board's own first, and then those of the boards that answered."""
+    """An access of a board, told by its index: the access, its word, the bus event, and what was
+    used, which is for each board its state, the event and the text of the alternative: of the board
+    itself first, and then of those that answered."""
 
     board: int
     access: str
@@ -51,8 +54,9 @@ class Move(typing.NamedTuple):
 
 
 def alternatives(cells, state, event):
-    """The alternatives of a cell. To a cell without any nothing comes, but for the events that never come to a board of
-    an accepted table in that state: there a board keeps its state, as the auditor has it."""
+    """The alternatives of a cell. To a cell without any nothing comes, but for the events that
+    never come to a board with an accepted table in that state: there a board keeps its state, as
+    the auditor has it."""
     return cells.get((state, event)) or ([state] if event in NEVER[state] else [])
 
 
@@ -87,37 +91,45 @@ def harm_in(memory, copies):
 
 
 def moved(config, move, choice, answers):
-    """The configuration after a move, and the harm that it does, or none. `answers` are those of other boards."""
+    """The configuration after a move, and the harm that it does, or none. `answers` are those of
+    other boards."""
     memory, copies = config
-    event, word, is_write = choice.event, move.word, move.access == "write"
-    given = dict(answers)
+    event, word = choice.event, move.word
     di = next((other for other, said in answers if said.di), None)
-    hit = any(said.ch for _, said in answers)
     source = memory if di is None else copies[di][1]
     own = source if event in LINE_READS else copies[move.board][1]
-    if move.access == "read" and not (source if event == "urd" else own)[word]:
+    if move.access == "read" and not (source if event in WORD_READS else own)[word]:
         return None, "reply"
-    states = [given[at].state if at in given else state for at, (state, _) in enumerate(copies)]
     rows = [words for _, words in copies]
-    if is_write:
-        memory, rows = put(memory, word, False), [put(words, word, False) for words in rows]
+    if move.access == "write":
+        memory, rows = put(memory, word, False), [put(row, word, False) for row in rows]
         own = put(own, word, True)
-    if event in BROADCASTS:
-        memory = put(memory, word, own[word])
-        rows = [put(row, word, own[word]) if at in given and given[at].sl else row for at, row in enumerate(rows)]
-    elif event in PLAIN_WRITES and di is None:
-        memory = put(memory, word, own[word])
-    elif event in PLAIN_WRITES:
-        rows[di] = put(rows[di], word, own[word])
-    elif event in LINE_WRITES:
-        memory = own
-    states[move.board], rows[move.board] = choice.hit if hit else choice.miss, own
+    memory, rows = taken(memory, rows, event, word, own, answers)
+    states = [state for state, _ in copies]
+    for other, said in answers:
+        states[other] = said.state
+    states[move.board] = choice.hit if any(said.ch for _, said in answers) else choice.miss
+    rows[move.board] = own
     copies = tuple(NO_COPY if state == "I" else (state, row) for state, row in zip(states, rows))
     return (memory, copies), harm_in(memory, copies)
 
 
+def taken(memory, rows, event, word, own, answers):
+    """Memory and the boards' words after those that take have taken, from a master with these words
+    of its own."""
+    if event in LINE_WRITES:
+        return own, rows
+    takers = [other for other, said in answers if event in BROADCASTS and said.sl]
+    if event in PLAIN_WRITES:
+        takers = [other for other, said in answers if said.di][:1]
+    rows = [put(row, word, own[word]) if at in takers else row for at, row in enumerate(rows)]
+    if event in BROADCASTS or event in PLAIN_WRITES and not takers:
+        memory = put(memory, word, own[word])
+    return memory, rows
+
+
 def different(texts, waits):
-    """Of some answers those that differ in what they do, where CH matters only if the outcome waits for it."""
+    """Of some answers those that differ in what they do: CH matters only if the outcome waits."""
     seen = {}
     for said in map(answer, texts):
         seen.setdefault((said.state, said.di, said.sl, waits and said.ch), said)
@@ -125,22 +137,23 @@ def different(texts, waits):
 
 
 def answers_to(copies, tables, board, choice):
-    """Each list of answers of the other holders to a board's choice, as pairs of the board and its answer."""
+    """Each list of answers of the other holders to a board's choice, with their boards."""
     if choice.event is None:
         return [()]
     others = [at for at, (state, _) in enumerate(copies) if at != board and state != "I"]
     waits = choice.hit != choice.miss
-    said = [different(alternatives(tables[at], copies[at][0], choice.event), waits) for at in others]
+    cells = [alternatives(tables[at], copies[at][0], choice.event) for at in others]
+    said = [different(texts, waits) for texts in cells]
     return [tuple(zip(others, given)) for given in itertools.product(*said)]
 
 
 def moves(config, tables):
-    """Each move from a configuration, with the configuration after it or none, and the harm or none."""
+    """Each move from a configuration, with the one after it or none, and the harm or none."""
     copies = config[1]
     for board, access in itertools.product(range(len(tables)), ACCESSES):
         state = copies[board][0]
         for choice in map(local, alternatives(tables[board], state, access)):
-            is_of_word = access in ("read", "write") or choice.event in BROADCASTS | PLAIN_WRITES
+            is_of_word = access in ("read", "write") or choice.event in WORD_WRITES
             for answers in answers_to(copies, tables, board, choice):
                 used = [(board, state, access, choice.text)]
                 used += [(at, copies[at][0], choice.event, said.text) for at, said in answers]
@@ -150,8 +163,8 @@ def moves(config, tables):
 
 
 def search(tables, limit=None):
-    """A shortest list of at most `limit` moves from the opening to a harm, or none, for boards with these tables, and
-    the number of configurations that were reached."""
+    """A shortest list of at most `limit` moves from the opening to a harm, or none, of boards with
+    these tables, and the number of configurations that were reached."""
     opening = ((True, True), (NO_COPY,) * len(tables))
     ways, queue = {opening: None}, collections.deque([(opening, 0)])
     while queue:

@@ -9,7 +9,7 @@ EXAMPLES = pathlib.Path(__file__).resolve().parent.parent / "examples"
 
 
 def read_table(path):
-    """The name and the cells of the one table of a file: to each state and event its alternatives, as texts."""
+    """The name and the cells of the one table of a file: the alternatives of each cell, as texts."""
     tables = {}
     with open(path, encoding="utf-8", errors="replace", newline="") as file:
         others = list(fbtrace.outside_tables(fbtrace.free_text(file.read()), tables))
@@ -52,8 +52,8 @@ def lines_of(ran, path, command):
     """The lines that a command printed of a file, where it ended with 0 or refused a table."""
     lines = ran.stdout.decode(errors="replace").splitlines()
     if ran.returncode not in (0, 1) or not lines:
-        said = " ".join(lines[:1]) or "nothing"
-        raise fbtrace.Unfit(f"{path}: `futurebus {command}` ended with {ran.returncode} and printed {said}")
+        said = f"ended with {ran.returncode} and printed {' '.join(lines[:1]) or 'nothing'}"
+        raise fbtrace.Unfit(f"{path}: `futurebus {command}` {said}")
     return lines
 
 
