@@ -14,13 +14,17 @@ use crate::helping::say;
 use crate::opening::limit_of;
 use crate::role::Role;
 use crate::rows::{
-    file_after, file_and_seed_after, files_after, kind_after, page_after, seed_after, text_alone,
+    exhibit_after, file_after, file_and_seed_after, files_after, kind_after, page_after, seed_after,
+    text_alone,
 };
 use crate::seen::Seen;
-use crate::{checking, narrowing, replaying, running, showing};
+use crate::told::Told;
+use crate::{auditing, checking, exhibiting, narrowing, replaying, running, showing};
+use audit::Finding;
+use audit_text::harm_word;
 use explain::{
-    explain_alone, explain_length, explain_schedule, explain_setup, explain_tables, explain_trace,
-    explain_unread, explain_words,
+    explain_alone, explain_harm, explain_length, explain_schedule, explain_setup, explain_tables,
+    explain_trace, explain_unread, explain_words,
 };
 use fb_edge::Shelf;
 use fb_text::Text;
@@ -31,8 +35,9 @@ use std::alloc::Global;
 #[cfg(test)]
 mod tests;
 
-/// Whether words ask for a command that opens no file: nothing stands against it.
-fn is_fileless(words: &[String]) -> Result<(), Reply>
+/// What stands before a command that opens no file is done: an exhibit is audited, and nothing stands
+/// against the others.
+fn ready_alone(alloc: Global, words: &[String], seen: &mut Seen) -> Result<(), Reply>
     ensures { IsReady (command_in fileless_rows (map string_bytes words.now)) None ⊥ result }
 {
     if let Some(_) = seed_after("make", words) {
@@ -43,6 +48,9 @@ fn is_fileless(words: &[String]) -> Result<(), Reply>
     }
     if let Some(_) = kind_after("library", words) {
         return Ok(());
+    }
+    if let Some(number) = exhibit_after("exhibit", words) {
+        return done(exhibiting::ready(alloc, number, seen));
     }
     if let Some(_) = text_alone(words) {
         return Ok(());
@@ -72,7 +80,13 @@ fn ready_to_study<F: Shelf>(
     if let Some((setup, _)) = file_and_seed_after("traffic", words) {
         return done(running::ready_setup(alloc, setup, shelf, seen));
     }
-    is_fileless(words)
+    if let Some((setup, schedule)) = files_after("audit", words) {
+        return done(auditing::ready(alloc, setup, schedule, shelf, seen));
+    }
+    if let Some((setup, seed)) = file_and_seed_after("audit", words) {
+        return done(auditing::ready_seeded(alloc, setup, seed, shelf, seen));
+    }
+    ready_alone(alloc, words, seen)
 }
 
 /// What stands before the command of words is done: nothing, or the reply with which it stops.
@@ -193,6 +207,37 @@ fn explain_files(
     }
 }
 
+/// Appends what a finding is, and which tables of the setup are not in the class.
+fn explain_finding(
+    alloc: Global,
+    seen: &Seen,
+    finding: Finding,
+    text: &mut Text,
+) -> Result<(), NoMemory>
+    ensures { Extends text.old.bytes text.new.bytes }
+{
+    explain_harm(
+        alloc,
+        harm_word(finding.harm),
+        finding.event,
+        finding.line.0,
+        text,
+    )?;
+    explain_setup(alloc, &seen.setup, text)
+}
+
+/// An audit with which a command stopped, and its explanation.
+fn explained_audit(alloc: Global, seen: &Seen, told: Told) -> Result<Told, NoMemory>
+    ensures audit { IfOk result (λ more. more.audit ≡ told.audit) }
+    ensures last { IfOk result (λ more. Extends told.last.bytes more.last.bytes) }
+{
+    let mut told = told;
+    if let Some(finding) = told.audit.finding() {
+        explain_finding(alloc, seen, finding, &mut told.last)?;
+    }
+    Ok(told)
+}
+
 /// An answer with which a command stopped, and its explanation.
 fn explained_answer(
     alloc: Global,
@@ -211,6 +256,7 @@ fn explained_answer(
             explain_files(alloc, words, seen, outcome, &mut text)?;
             Ok(Answer::Said { outcome, text })
         }
+        Answer::Audited(told) => Ok(Answer::Audited(explained_audit(alloc, seen, told)?)),
         other => Ok(other),
     }
 }

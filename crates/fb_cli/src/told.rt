@@ -1,0 +1,19 @@
+//! An audit that can be printed.
+
+ghost use Rattle.std.specs.List.{AllByRecursion};
+ghost use Rattle.trace_text.specs.Ranges.{InRange};
+ghost use Rattle.run_text.specs.RunLines.{IsTyped};
+
+use crate::room::Room;
+use audit::Audit;
+use fb_text::Text;
+
+/// An audit, and what is printed after its events: the line that tells what was found, and maybe
+/// why. Each of its events has a line, so printing tests none of them.
+#[derive(Drop)]
+pub struct Told {
+    pub audit: Audit,
+    pub last: Text,
+    pub room: Room,
+    ghost spelled: { AllByRecursion (λ event. IsTyped event → InRange event) audit.journal },
+}
