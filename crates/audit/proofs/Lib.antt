@@ -7,7 +7,8 @@ pub mod Picking
 pub mod Granting
 pub mod MemoryLines
 pub mod Courses
-pub mod Spending
+pub mod Settled
+mod Spending
 pub mod Cells
 pub mod Filling
 pub mod Moved
@@ -30,3 +31,4 @@ pub mod Found
 pub mod TurnCases
 pub mod Taking
 pub mod ExhibitsFit
+pub mod Latest

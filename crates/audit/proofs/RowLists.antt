@@ -3,8 +3,9 @@ use Rattle.std.proofs.Common.{◌≡◌, ℕ, zero, suc, ◌+◌, ◌≤◌, ◌
 use Rattle.std.specs.Prelude.{filter, filter_map, insert, is_some, nat_le, if◌then◌else◌}
 use Rattle.std.specs.List.{cons_option}
 use Rattle.std.proofs.lemmas.Bool.{leb-true, leb-false, le-leb, lt-leb}
-use Rattle.std.proofs.lemmas.List.{take_more}
+use Rattle.std.proofs.lemmas.List.{length-map, take_more}
 use Rattle.std.proofs.lemmas.List.Elements.{filter-append}
+use Rattle.std.proofs.Math.Seq.{take-append_seam}
 use Rattle.moesi_state.specs.declared.State.{State}
 use Rattle.moesi_state.specs.States.{holds}
 use Rattle.bus_model.specs.Configuration.{Row, is_copy}
@@ -114,6 +115,14 @@ module _ {X : Type 0} where
       → map (λ y. unwrap_or (h y) y) (filter (λ y. is_some (h y)) xs) ≡ filter_map h xs
   kept-map h [] = refl
   kept-map h (x ∷ xs) = kept-by h x xs (h x) refl (kept-map h xs)
+
+  -- A list that was lent out whole, and mapped.
+  pub lent-mapped :
+      (f : X → X) (n : ℕ) (xs ys : List X) → n ≡ length xs → ys ≡ map f xs
+      → take n (ys ++ drop (length ys) xs) ≡ map f xs
+  lent-mapped f n xs ys long e =
+      ap (λ m. take m (ys ++ drop (length ys) xs)) (long ∙ sym (ap length e ∙ length-map xs f))
+      ∙ take-append_seam ys (drop (length ys) xs) ∙ e
 
   left-by :
       (p : X → Bool) (x : X) (b : Bool) (xs ys : List X) → xs ≡ ys

@@ -1,8 +1,8 @@
 -- What is seen of the rows of a line tells what is wrong with it.
-use Rattle.std.proofs.Common.{◌≡◌, ℕ, zero, suc, ◌+◌, ◌<◌, ◌≤◌, Bool, true, false, cond, not, ◌&&◌, ◌||◌, List, [], ◌∷◌, Option, Some, None, length, get_or, drop, refl, ap, sym, ◌∙◌, arith, add-one, drop-cons}
+use Rattle.std.proofs.Common.{◌≡◌, ℕ, zero, suc, ◌+◌, ◌<◌, ◌≤◌, Bool, true, false, cond, not, ◌&&◌, ◌||◌, List, [], ◌∷◌, Option, Some, None, length, get_or, drop, refl, ap, sym, subst, ◌∙◌, inl, inr, ◌⊎◌, arith, add-one, drop-cons}
 use Rattle.std.specs.Prelude.{if◌then◌else◌, nat_le, ◌==◌}
 use Rattle.std.specs.List.{list_all}
-use Rattle.std.proofs.lemmas.Bool.{le-leb, lt-leb}
+use Rattle.std.proofs.lemmas.Bool.{eq-eqb, le-leb, lt-leb, ne_eqb, not-false, not-true}
 use Rattle.moesi_state.specs.States.{owns, is_alone}
 use Rattle.bus_model.specs.Configuration.{Row, is_of_line, rows_of_line}
 use Rattle.bus_model.specs.Coherence.{owner_count, has_alone}
@@ -154,3 +154,78 @@ module _ (rows : List Row) (memory latest : List ℕ) where
       else (if not (fresh i) then Some Words
       else (if same i then Some Memory
       else None))))
+
+-- A row is not to be alone, or it is.
+abbrev pub IsNotShared : Seen → Type 0
+IsNotShared seen = ((seen.alone ≡ true) × (seen.copies ≤ 1)) ⊎ (seen.alone ≡ false)
+
+-- A row owns the line, or memory has the latest words.
+abbrev pub MemoryIsLatest : Seen → List ℕ → List ℕ → Type 0
+MemoryIsLatest seen memory latest =
+    ((seen.owners ≡ 0) × (not (same_words memory latest) ≡ false)) ⊎ (seen.owners ≡ 0 → ⊥)
+
+module _
+    (line : ℕ) (all : List Row) (memory latest : List ℕ) (seen : Seen)
+    (is : seen ≡ seen_after line latest unseen all) where
+  abbrev rows : List Row
+  rows = rows_of_line all line
+
+  seen_all : SeesAll latest unseen seen (rows_of_line all line)
+  seen_all = subst (λ s. SeesAll latest unseen s (rows_of_line all line)) (sym is) (sees line latest all unseen)
+
+  owned_by : owner_count (rows_of_line all line) ≡ seen.owners
+  owned_by = let o = seen_all.owners in omega (arith, o)
+
+  copied_by : length (rows_of_line all line) ≡ seen.copies
+  copied_by = let o = seen_all.copies in omega (arith, o)
+
+  not_shared : IsNotShared seen → (has_alone rows && not (nat_le (length rows) 1)) ≡ false
+  not_shared (inl few) =
+      let copies = copied_by in
+      ap (λ b. b && not (nat_le (length rows) 1)) (sym seen_all.alone ∙ few.0)
+      ∙ ap not (le-leb (length rows) 1 (omega (arith, copies, few.1)))
+  not_shared (inr none) = ap (λ b. b && not (nat_le (length rows) 1)) (sym seen_all.alone ∙ none)
+
+  fresh_rows : seen.stale ≡ false → all_latest latest rows ≡ true
+  fresh_rows h = not-false (all_latest latest rows) (sym seen_all.stale ∙ h)
+
+  pub owners_harm : 1 < seen.owners → Some Owners ≡ line_harm (rows_of_line all line) memory latest
+  owners_harm h = let owners = owned_by in sym (two_owners rows memory latest (omega (arith, owners, h)))
+
+  pub shared_harm :
+      seen.owners ≤ 1 → seen.alone ≡ true → 1 < seen.copies
+      → Some Shared ≡ line_harm (rows_of_line all line) memory latest
+  shared_harm few alone more =
+      let owners = owned_by in
+      let copies = copied_by in
+      sym (not_alone rows memory latest (omega (arith, owners, few)) (sym seen_all.alone ∙ alone)
+      (omega (arith, copies, more)))
+
+  pub words_harm :
+      seen.owners ≤ 1 → IsNotShared seen → seen.stale ≡ true
+      → Some Words ≡ line_harm (rows_of_line all line) memory latest
+  words_harm few apart stale =
+      let owners = owned_by in
+      sym (stale_row rows memory latest (omega (arith, owners, few)) (not_shared apart)
+      (not-true (all_latest latest rows) (sym seen_all.stale ∙ stale)))
+
+  pub memory_harm :
+      seen.owners ≤ 1 → IsNotShared seen → seen.stale ≡ false → seen.owners ≡ 0
+      → not (same_words memory latest) ≡ true → Some Memory ≡ line_harm (rows_of_line all line) memory latest
+  memory_harm few apart fresh none other =
+      let owners = owned_by in
+      sym (stale_memory rows memory latest (omega (arith, owners, few)) (not_shared apart) (fresh_rows fresh)
+      (ap (λ b. b && not (same_words memory latest)) (eq-eqb (owner_count rows) 0 (owned_by ∙ none)) ∙ other))
+
+  pub harmless :
+      seen.owners ≤ 1 → IsNotShared seen → seen.stale ≡ false → MemoryIsLatest seen memory latest
+      → None ≡ line_harm (rows_of_line all line) memory latest
+  harmless few apart fresh same =
+      let owners = owned_by in
+      sym (no_harm rows memory latest (omega (arith, owners, few)) (not_shared apart) (fresh_rows fresh) (tested same))
+    where
+      tested : MemoryIsLatest seen memory latest → ((owner_count rows == 0) && not (same_words memory latest)) ≡ false
+      tested (inl both) =
+          ap (λ b. b && not (same_words memory latest)) (eq-eqb (owner_count rows) 0 (owned_by ∙ both.0)) ∙ both.1
+      tested (inr owned) =
+          ap (λ b. b && not (same_words memory latest)) (ne_eqb (owner_count rows) 0 (λ e. owned (sym owned_by ∙ e)))

@@ -1,13 +1,14 @@
 //! What each event does to the parts of the auditor's machine.
 
-ghost use Rattle.std.specs.Prelude.{◌≡◌, ◌≤◌, ◌^◌, ◌==◌, OnOk, filter_map, is_some, length, map};
+ghost use Rattle.std.specs.Prelude.{◌≡◌, ◌≤◌, ◌^◌, ◌+◌, ◌==◌, OnOk, false, filter_map, is_some, length, map, if◌then◌else◌};
 ghost use Rattle.std.specs.List.{list_any};
-ghost use Rattle.bus_model.specs.Carrying.{state_in};
-ghost use Rattle.bus_model.specs.Effects.{answered, put_copy, row_as};
+ghost use Rattle.bus_model.specs.Carrying.{master_words, state_in, state_of_master};
+ghost use Rattle.bus_model.specs.Effects.{answered, asking, completed, put_copy, put_memory, row_as, spent, without_grant};
+ghost use Rattle.bus_model.specs.Places.{change_place};
 ghost use Rattle.bus_model.specs.Steps.{after_connect, after_grant};
-ghost use Rattle.audit.specs.Parts.{shown, CountsAreLow, SpentBelow};
+ghost use Rattle.audit.specs.Parts.{shown, phase_of, CountsAreLow, PlacesBelow, SpentBelow};
 ghost use Rattle.audit.specs.Rows.{answered_row};
-ghost use Rattle.audit.specs.Steps.{any_answering_row, any_taken_words, after_any, after_any_local, after_any_data};
+ghost use Rattle.audit.specs.Steps.{any_answering_row, any_memory_words, any_taken_words, displaced, without_displaced, after_any, after_any_local, after_any_data};
 
 use crate::carrying::{carried_into, master_words, memory_words};
 use crate::copies::{Held, add, change, give_up, row_of, words_of};
@@ -148,6 +149,39 @@ fn put_copy(
     Ok(())
 }
 
+/// The row that has to go where a board comes to a state without the bus goes.
+fn displace(setup: &Setup, parts: &mut Parts, board: BoardNo, line: LineNo, state: State)
+    ensures { shown parts.new
+        ≡ without_displaced (shown parts.old) board
+        (displaced setup.now (shown parts.old).rows board line state) }
+{
+    if let Some(victim) = displaced(setup, &parts.rows, board, line, state) {
+        give_up(&mut parts.rows, board, victim.0);
+    }
+}
+
+/// A board has completed an access without the bus: it spends a draw, and has no request any more.
+fn finish(boards: &mut [Course], board: BoardNo)
+    requires places { PlacesBelow (2 ^ 31) boards.old }
+    requires draws { SpentBelow (2 ^ 63) boards.old }
+    ensures { boards.new
+        ≡ change_place (asking false) (change_place spent
+        (change_place completed boards.old board) board) board }
+{
+    complete(boards, board);
+    spend(boards, board);
+    ask(boards, board, false);
+}
+
+/// A board gives up a grant that it may have.
+fn give_back(phase: &mut Phase, board: BoardNo)
+    ensures { phase_of phase.new ≡ without_grant (phase_of phase.old) board }
+{
+    if phase.is_granted(board) {
+        *phase = Phase::Idle;
+    }
+}
+
 /// A board completes its present access without the bus.
 fn settle(
     setup: &Setup,
@@ -161,17 +195,11 @@ fn settle(
         (shown parts.new ≡ after_any_local setup.now (shown parts.old) board state done.now) }
 {
     let line = done.access.addr().line();
-    if let Some(victim) = displaced(setup, &parts.rows, board, line, state) {
-        give_up(&mut parts.rows, board, victim.0);
-    }
+    displace(setup, parts, board, line, state);
     let words = written(&done.access, words_of(&parts.rows, board, line));
     put_copy(parts, board, line, state, words)?;
-    complete(parts.boards.as_mut_slice(), board);
-    spend(parts.boards.as_mut_slice(), board);
-    ask(parts.boards.as_mut_slice(), board, false);
-    if parts.phase.is_granted(board) {
-        parts.phase = Phase::Idle;
-    }
+    finish(parts.boards.as_mut_slice(), board);
+    give_back(&mut parts.phase, board);
     Ok(())
 }
 
@@ -187,7 +215,7 @@ fn grant(parts: &mut Parts, winner: BoardNo)
 
 /// Each answering board spends a draw.
 fn spend_all(boards: &mut [Course], answers: &[Answer])
-    requires counts { SpentBelow (2 ^ 62) boards.old }
+    requires counts { SpentBelow (2 ^ 62 + 1) boards.old }
     requires few { length answers.now ≤ 15 }
     ensures { boards.new ≡ answered boards.old answers.now }
 {
@@ -196,14 +224,58 @@ fn spend_all(boards: &mut [Course], answers: &[Answer])
     }
 }
 
+/// The master of a transaction spends a draw, and so does each answering board.
+fn spend_draws(boards: &mut [Course], connected: &Connected)
+    requires { SpentBelow (2 ^ 62) boards.old }
+    ensures { boards.new
+        ≡ answered (change_place spent boards.old connected.now.master) connected.now.answers }
+{
+    spend(boards, connected.master);
+    spend_all(boards, connected.answers.items());
+}
+
 /// A transaction is connected.
 fn connect(parts: &mut Parts, connected: &Connected)
     requires { CountsAreLow parts.old.boards.items }
     ensures { shown parts.new ≡ after_connect (shown parts.old) connected.now }
 {
-    spend(parts.boards.as_mut_slice(), connected.master);
-    spend_all(parts.boards.as_mut_slice(), connected.answers.items());
+    spend_draws(parts.boards.as_mut_slice(), connected);
     parts.phase = Phase::Connected(connected.copy());
+}
+
+/// Memory takes what a data phase gives it.
+fn remember(parts: &mut Parts, carried: &Carried, own: [u32; 4])
+    ensures { own ≡ master_words (shown parts.old) carried.now
+        → shown parts.new ≡ (if carried.now.takers.memory
+        then put_memory (shown parts.old) carried.now.line
+        (any_memory_words (shown parts.old) carried.now)
+        else shown parts.old) }
+{
+    if carried.takers.memory {
+        let words = memory_words(parts, carried, own);
+        put_line(parts.memory.as_mut_slice(), carried.line, words);
+    }
+}
+
+/// The state that a data phase gives its master.
+fn state_of_master(carried: &Carried) -> State
+    ensures { result ≡ state_of_master carried.now }
+{
+    match state_in(carried.states.items(), carried.master) {
+        Some(state) => state,
+        None => State::I,
+    }
+}
+
+/// The master completes its access, if the data phase completes one.
+fn complete_if(done: &Option<Done>, boards: &mut [Course], board: BoardNo)
+    requires { PlacesBelow (2 ^ 31) boards.old }
+    ensures { boards.new
+        ≡ (if is_some done.now then change_place completed boards.old board else boards.old) }
+{
+    if done.is_some() {
+        complete(boards, board);
+    }
 }
 
 /// The data of the transaction that is connected moves.
@@ -212,19 +284,10 @@ fn carry(parts: &mut Parts, carried: &Carried) -> Result<(), NoMemory>
     ensures { OnOk result (shown parts.new ≡ after_any_data (shown parts.old) carried.now) }
 {
     let own = master_words(parts, carried);
-    if carried.takers.memory {
-        let words = memory_words(parts, carried, own);
-        put_line(parts.memory.as_mut_slice(), carried.line, words);
-    }
+    remember(parts, carried, own);
     answer_all(&mut parts.rows, carried, own);
-    let state = match state_in(carried.states.items(), carried.master) {
-        Some(state) => state,
-        None => State::I,
-    };
-    put_copy(parts, carried.master, carried.line, state, own)?;
-    if carried.done.is_some() {
-        complete(parts.boards.as_mut_slice(), carried.master);
-    }
+    put_copy(parts, carried.master, carried.line, state_of_master(carried), own)?;
+    complete_if(&carried.done, parts.boards.as_mut_slice(), carried.master);
     parts.phase = Phase::Idle;
     Ok(())
 }

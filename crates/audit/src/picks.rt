@@ -115,6 +115,7 @@ pub fn decide(setup: &Setup, parts: &Parts, board: BoardNo, access: &Access) -> 
     requires { IsPlaceOf setup.now board }
     ensures { result ≡ decide (filled setup.now) (shown parts.now) board access.now }
 {
+    let _boards = setup.boards(); // gives the limits of a setup to the prover
     let state = state_of(&parts.rows, board, access.addr().line());
     let cell = table_of(setup, board).local(state, access.kind());
     let draw = draw_of(setup, parts, board);
@@ -132,6 +133,7 @@ pub fn decide_answer(
     requires { IsPlaceOf setup.now board }
     ensures { result ≡ decide_answer (filled setup.now) (shown parts.now) board line event }
 {
+    let _boards = setup.boards(); // gives the limits of a setup to the prover
     let state = state_of(&parts.rows, board, line);
     let cell = table_of(setup, board).snoop(state, event);
     picked(cell, draw_of(setup, parts, board), fallback_answer(state))

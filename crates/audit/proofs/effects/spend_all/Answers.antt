@@ -10,7 +10,7 @@ pub spend-requires : goal.spend-requires
 spend-requires c =
     let t = c.loop-answer-test.true in
     let few = c.requires.few in
-    spent-weaker (2 ^ 62 + c.loop-answer.answer-index) (2 ^ 63) c.loop-answer.boards (omega arith)
+    spent-weaker (2 ^ 62 + 1 + c.loop-answer.answer-index) (2 ^ 63) c.loop-answer.boards (omega arith)
     c.loop-answer.invariant.below
 
 pub loop-answer-preserved : goal.loop-answer-preserved
@@ -18,12 +18,12 @@ loop-answer-preserved c =
     let i = c.loop-answer.answer-index in
     let next = c.spend.ensures
     ∙ ap (λ (a : Answer). change_place spent c.loop-answer.boards a.board) c.answer-item.is in
-    let e : 2 ^ 62 + (i + 1) ≡ suc (2 ^ 62 + i) = omega arith in
+    let e : 2 ^ 62 + 1 + (i + 1) ≡ suc (2 ^ 62 + 1 + i) = omega arith in
     record {
       spent =
           answered-more c.args.boards.now c.loop-answer.boards c.spend.new.boards c.args.answers.now i
           c.answer-item.result c.loop-answer-test.true c.loop-answer.invariant.spent next;
       below =
           rw (e, c.spend.ensures)
-          (spent-next (2 ^ 62 + i) c.loop-answer.boards c.answer-item.result.board c.loop-answer.invariant.below);
+          (spent-next (2 ^ 62 + 1 + i) c.loop-answer.boards c.answer-item.result.board c.loop-answer.invariant.below);
     }

@@ -7,5 +7,5 @@ use Rattle.audit.proofs.effects.spend_all.Given as goal
 abbrev pub invariant-loop-answer : goal.invariant-loop-answer
 invariant-loop-answer l = record {
   spent : l.boards ≡ answered l.initial.boards (take l.answer-index l.answers);
-  below : SpentBelow (2 ^ 62 + l.answer-index) l.boards;
+  below : SpentBelow (2 ^ 62 + 1 + l.answer-index) l.boards;
 }
