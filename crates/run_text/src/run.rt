@@ -221,7 +221,7 @@ fn print_events_through<K: Sink>(
         (K.taken sink.new) printer.old printer.new (events_text events.now ++ last.now) result }
 {
     printer.events(events, sink)?;
-    printer.page.add(last, sink)
+    printer.text(last, sink)
 }
 
 /// Prints the lines of events, and after them a text.
