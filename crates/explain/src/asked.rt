@@ -4,7 +4,7 @@ use crate::commands::{Command, NAMES};
 use crate::nearest::say_guess;
 use crate::numbers::say_number;
 use crate::say::{choices, say};
-use fb_text::{Text, number_within};
+use fb_text::Text;
 use no_memory::NoMemory;
 use std::alloc::Global;
 
@@ -30,24 +30,15 @@ fn say_no_table(text: &mut Text, word: &str) -> Result<(), NoMemory> {
     say_guess(text, word.as_bytes(), &TABLES)
 }
 
-/// Appends what is wrong with the number of an exhibit.
-fn say_no_exhibit(text: &mut Text, word: &str) -> Result<(), NoMemory> {
-    if let Ok(_) = number_within(Some(word.as_bytes()), u64::MAX) {
-        say(text, "There is no exhibit ")?;
-        say(text, word)?;
-        return say(text, ".\n");
-    }
-    say_number(text, word.as_bytes())
-}
-
 /// Appends what is wrong with the words of a command that are as many as it takes, where it is one
 /// of them.
 fn say_last(text: &mut Text, command: Command, words: &[String]) -> Result<(), NoMemory> {
     match (command, words) {
-        (Command::Make | Command::Tally, [number]) => say_number(text, number.as_str().as_bytes()),
+        (Command::Make | Command::Tally | Command::Exhibit, [number]) => {
+            say_number(text, number.as_str().as_bytes())
+        }
         (Command::Help, [name]) => say_no_command(text, name.as_str()),
         (Command::Library, [name]) => say_no_table(text, name.as_str()),
-        (Command::Exhibit, [number]) => say_no_exhibit(text, number.as_str()),
         (Command::Run | Command::Traffic | Command::Audit, [_, seed, number]) => {
             if seed.as_str() == "seed" {
                 return say_number(text, number.as_str().as_bytes());

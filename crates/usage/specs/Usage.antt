@@ -62,6 +62,13 @@ file_pages =
       example = codes "traffic examples/mixture.setup seed 1";
       statuses = codes "0 1 3 4 5 6 7";
     }
+    ∷ record {
+      name = codes "audit";
+      words = codes "audit SETUP SCHEDULE, or audit SETUP seed NUMBER";
+      does = codes "prints the run of any tables up to the first harm";
+      example = codes "audit examples/silent-sharer.setup seed 1";
+      statuses = codes "0 3 4 5 6 7 9";
+    }
     ∷ []
 
 -- The other commands.
@@ -87,6 +94,13 @@ other_pages =
       does = codes "prints the table of a known protocol: cb, up, wt, wb, ex or un";
       example = codes "library cb";
       statuses = codes "0 5 6";
+    }
+    ∷ record {
+      name = codes "exhibit";
+      words = codes "exhibit NUMBER";
+      does = codes "prints a run that does harm, of one of 12 tables that are refused";
+      example = codes "exhibit 5";
+      statuses = codes "5 6 9";
     }
     ∷ record {
       name = codes "explain";
@@ -126,7 +140,7 @@ statuses =
     ∷ codes "status 5: the output was not written"
     ∷ codes "status 6: memory ran out"
     ∷ codes "status 7: a file is too long"
-    ∷ codes "status 9: no part of a table is in the class"
+    ∷ codes "status 9: no part of a table is in the class, or an event of an audit does harm"
     ∷ []
 
 -- A line of text.
