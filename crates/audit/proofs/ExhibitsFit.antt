@@ -248,13 +248,11 @@ exhibit_fits number low high =
 
 -- And so is one that is made of the same parts.
 pub parts_fit :
-    (number : ℕ) (memory : List ℕ) (tables : List Table) (boards : List BoardSpec) (scripts : List (List Access))
-    → 1 ≤ number → number ≤ 12 → memory ≡ replicate 4 0
-    → tables
-    ≡ changed (codes "x") (protocol_table (exhibit_of number).base) (exhibit_of number).change
-    ∷ other_table (exhibit_of number).other ∷ []
-    → boards ≡ boards_of (exhibit_of number).shape
-    → scripts ≡ scripts_of (exhibit_of number)
+    (number : ℕ) (e : ExhibitParts) (memory : List ℕ) (tables : List Table) (boards : List BoardSpec)
+    (scripts : List (List Access))
+    → 1 ≤ number → number ≤ 12 → e ≡ exhibit_of number → memory ≡ replicate 4 0
+    → tables ≡ changed (codes "x") (protocol_table e.base) e.change ∷ other_table e.other ∷ []
+    → boards ≡ boards_of e.shape → scripts ≡ scripts_of e
     → WellFormed (record {
       memory = memory;
       fair = false;
@@ -262,11 +260,11 @@ pub parts_fit :
       boards = boards;
       scripts = scripts;
     })
-parts_fit number memory tables boards scripts low high m t b s =
+parts_fit number e memory tables boards scripts low high is m t b s =
     subst WellFormed (λ i. record {
       memory = sym m i;
       fair = false;
       tables = sym t i;
       boards = sym b i;
       scripts = sym s i;
-    }) (exhibit_fits number low high)
+    }) (subst (λ x. WellFormed (setup_of x)) (sym is) (exhibit_fits number low high))
