@@ -286,7 +286,13 @@ fn carry(parts: &mut Parts, carried: &Carried) -> Result<(), NoMemory>
     let own = master_words(parts, carried);
     remember(parts, carried, own);
     answer_all(&mut parts.rows, carried, own);
-    put_copy(parts, carried.master, carried.line, state_of_master(carried), own)?;
+    put_copy(
+        parts,
+        carried.master,
+        carried.line,
+        state_of_master(carried),
+        own,
+    )?;
     complete_if(&carried.done, parts.boards.as_mut_slice(), carried.master);
     parts.phase = Phase::Idle;
     Ok(())
