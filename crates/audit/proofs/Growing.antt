@@ -138,3 +138,9 @@ turn_of_event Finished event e = cc
 -- What is left of a schedule, from a turn on.
 pub turns_left : (xs : List ℕ) (n d : ℕ) → n < length xs → drop n xs ≡ get_or xs n d ∷ drop (n + 1) xs
 turns_left xs n d h = rw (add-one n) (drop-cons xs n d h)
+
+-- No round changes the setup.
+pub setup_of_round :
+    (a later : Audit) (boards : List ℕ) (setup : Setup) → later ≡ audit_turns a boards → a.setup ≡ setup
+    → later.setup ≡ setup
+setup_of_round a later boards setup turned e = ap (λ (x : Audit). x.setup) turned ∙ same_setup a boards ∙ e
