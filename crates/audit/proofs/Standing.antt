@@ -23,6 +23,7 @@ use Rattle.audit.specs.Playing.{audit_turns, unbegun}
 use Rattle.audit.specs.Auditor.{StandsFor}
 use Rattle.audit.proofs.Ending.{Watched, after_any_all-append, any_and_rest, any_turns-append, played_ends, turns_watched, watched_opening}
 use Rattle.audit.proofs.Charges.{few_events}
+use Rattle.audit.proofs.Growing.{setup_of_round}
 use Rattle.audit.proofs.Audits.{schedule_audit, turns_joined}
 use Rattle.audit.proofs.Legal.{any_turn_can}
 use Rattle.audit.proofs.Watching.{done_within, few_now, found_next, watched_now}
@@ -168,3 +169,26 @@ audit_made setup schedule turned ended t e =
     e ∙ ap (λ a. audit_turns a (repeated (8 * access_count setup) (board_places setup))) t
     ∙ sym (turns_joined (unbegun setup) schedule (repeated (8 * access_count setup) (board_places setup)))
     ∙ schedule_audit setup schedule
+
+-- The turns of a schedule after the opening, and then the rounds of the setup.
+pub audit_comes :
+    (setup : Setup) (schedule : List ℕ) (opened turned ended : Audit) → opened ≡ unbegun setup
+    → turned ≡ audit_turns opened schedule
+    → ended ≡ audit_turns turned (repeated (8 * access_count turned.setup) (board_places turned.setup))
+    → ended ≡ audited setup schedule
+audit_comes setup schedule opened turned ended o t e =
+    let made = t ∙ ap (λ a. audit_turns a schedule) o in
+    let same = setup_of_round (unbegun setup) turned schedule setup made refl in
+    audit_made setup schedule turned ended made
+    (e ∙ ap (λ s. audit_turns turned (repeated (8 * access_count s) (board_places s))) same)
+
+-- It keeps what holds of every audit.
+pub comes_holds :
+    (setup : Setup) (schedule : List ℕ) (journal : List Event) (c : Configuration) (flat : List ℕ)
+    (finding : Option Finding) (later : Setup) → StandsFor later journal c flat finding
+    → record { setup = later; journal = journal; finding = finding } ≡ audited setup schedule
+    → Audited (record { setup = later; journal = journal; finding = finding })
+comes_holds setup schedule journal c flat finding later h e =
+    let same : later ≡ setup = ap (λ (a : Audit). a.setup) e in
+    audit_holds later schedule journal c flat finding h.well h
+    (ap (λ s. audited s schedule) same ∙ sym e)

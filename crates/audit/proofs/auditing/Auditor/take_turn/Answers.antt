@@ -13,9 +13,8 @@ turn-requires-clause-boards c =
 
 pub go-requires-clause-turn : goal.go-requires-clause-turn
 go-requires-clause-turn c =
-    let s = c.args.self.now in
-    (
+    let s = c.args.self.now in (
       c.args.board,
       subst (λ x. any_turn s.setup x c.args.board ≡ Did c.in-Some.event) c.requires.stands.parts
-      (turn_of_event _ c.in-Some.event c.in-Some.ensures),
+          (turn_of_event _ c.in-Some.event c.in-Some.ensures),
     )
