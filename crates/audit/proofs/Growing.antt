@@ -66,3 +66,36 @@ same_setup a (board ∷ boards) = same_setup (audit_turn a board a.finding) boar
     one : (o : Option Finding) → (audit_turn a board o).setup ≡ a.setup
     one None = turned (any_turn a.setup (led_to a) board)
     one (Some finding) = refl
+
+-- ---- as the code makes them
+
+-- One more turn.
+pub turn_more :
+    (a now next : Audit) (board : ℕ) (boards rest : List ℕ) → boards ≡ board ∷ rest → audit_turns now boards ≡ a
+    → next ≡ audit_turn now board now.finding → audit_turns next rest ≡ a
+turn_more a now next board boards rest split h n =
+    ap (λ x. audit_turns x rest) n ∙ sym (ap (audit_turns now) split) ∙ h
+
+pub turn_setup :
+    (now next : Audit) (board : ℕ) → next ≡ audit_turn now board now.finding → next.setup ≡ now.setup
+turn_setup now next board n = ap (λ (a : Audit). a.setup) n ∙ same_setup now (board ∷ [])
+
+-- The last round adds no event.
+pub round_last :
+    (a now next : Audit) (boards : List ℕ) (n : ℕ) → audit_turns now (repeated n boards) ≡ a
+    → next ≡ audit_turns now boards → length next.journal ≡ length now.journal → next ≡ a
+round_last a now next boards n h r long =
+    let still = turns_still now boards (sym (ap (λ (x : Audit). length x.journal) r) ∙ long) in
+    r ∙ still ∙ sym (rounds_still now boards n still) ∙ h
+
+-- One more round.
+pub round_more :
+    (a now next : Audit) (boards : List ℕ) (n m : ℕ) → n ≡ suc m → audit_turns now (repeated n boards) ≡ a
+    → next ≡ audit_turns now boards → audit_turns next (repeated m boards) ≡ a
+round_more a now next boards n m is h r =
+    ap (λ x. audit_turns x (repeated m boards)) r ∙ sym (round_first now boards m)
+    ∙ sym (ap (λ k. audit_turns now (repeated k boards)) is) ∙ h
+
+pub round_setup :
+    (now next : Audit) (boards : List ℕ) → next ≡ audit_turns now boards → next.setup ≡ now.setup
+round_setup now next boards r = ap (λ (a : Audit). a.setup) r ∙ same_setup now boards
