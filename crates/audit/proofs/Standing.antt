@@ -22,6 +22,7 @@ use Rattle.audit.specs.Auditor.{StandsFor}
 use Rattle.audit.proofs.Ending.{Watched, after_any_all-append, any_and_rest, any_turns-append, played_ends, turns_watched, watched_opening}
 use Rattle.audit.proofs.Charges.{few_events}
 use Rattle.audit.proofs.Audits.{schedule_audit, turns_joined}
+use Rattle.audit.proofs.Growing.{round_setup}
 use Rattle.audit.proofs.Legal.{any_turn_can}
 use Rattle.audit.proofs.Watching.{few_now, found_next, watched_now}
 
@@ -123,11 +124,24 @@ audit_holds setup schedule journal c flat finding well h e = record {
         ∙ ap (λ o. up_to o (any_played setup schedule)) (ap (λ (a : Audit). a.finding) e ∙ none)
 
 -- The turns of a schedule and then rounds come to the audit.
-pub audit_made :
-    (setup : Setup) (schedule : List ℕ) (turned ended : Audit) → turned ≡ audit_turns (unbegun setup) schedule
-    → ended ≡ audit_turns turned (repeated (8 * access_count setup) (board_places setup))
+pub audit_ended :
+    (setup : Setup) (schedule : List ℕ) (opened turned ended : Audit) → opened ≡ unbegun setup
+    → turned ≡ audit_turns opened schedule
+    → ended ≡ audit_turns turned (repeated (8 * access_count turned.setup) (board_places turned.setup))
     → ended ≡ audited setup schedule
-audit_made setup schedule turned ended t e =
-    e ∙ ap (λ a. audit_turns a (repeated (8 * access_count setup) (board_places setup))) t
+audit_ended setup schedule opened turned ended o t e =
+    let made : turned ≡ audit_turns (unbegun setup) schedule = t ∙ ap (λ a. audit_turns a schedule) o in
+    let same : turned.setup ≡ setup = round_setup (unbegun setup) turned schedule made in
+    e
+    ∙ (λ i. audit_turns (made i) (repeated (8 * access_count (same i)) (board_places (same i))))
     ∙ sym (turns_joined (unbegun setup) schedule (repeated (8 * access_count setup) (board_places setup)))
     ∙ schedule_audit setup schedule
+
+-- And the setup is then the one of the audit.
+pub ended_holds :
+    (setup : Setup) (schedule : List ℕ) (ended : Audit) (c : Configuration) (flat : List ℕ)
+    → StandsFor ended.setup ended.journal c flat ended.finding → ended ≡ audited setup schedule → Audited ended
+ended_holds setup schedule ended c flat h made =
+    let same : ended.setup ≡ setup = ap (λ (a : Audit). a.setup) made in
+    audit_holds ended.setup schedule ended.journal c flat ended.finding h.well h
+    (ap (λ s. audited s schedule) same ∙ sym made)
