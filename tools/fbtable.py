@@ -9,7 +9,7 @@ EXAMPLES = pathlib.Path(__file__).resolve().parent.parent / "examples"
 
 
 def read_table(path):
-    """The name and the cells of the one table of a file: the alternatives of each cell, as texts."""
+    """The name and the cells of the one table of a file: each cell has its alternatives, as texts."""
     tables = {}
     with open(path, encoding="utf-8", errors="replace", newline="") as file:
         others = list(fbtrace.outside_tables(fbtrace.free_text(file.read()), tables))
