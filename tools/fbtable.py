@@ -2,25 +2,29 @@
 
 import pathlib
 import subprocess
+import typing
 
 import fbtrace
 
 EXAMPLES = pathlib.Path(__file__).resolve().parent.parent / "examples"
 
 
-def read_table(path):
-    """The name and the cells of the one table of a file: each cell has its alternatives, as texts."""
+class Table(typing.NamedTuple):
+    """A table: its name, its cells with their alternatives as texts, and what `check` says of it,
+    which is a verdict and faults, as words."""
+
+    name: str
+    cells: dict
+    verdict: str
+    faults: list
+
+
+def example(name):
+    """The cells of a table of examples/."""
     tables = {}
-    with open(path, encoding="utf-8", errors="replace", newline="") as file:
-        others = list(fbtrace.outside_tables(fbtrace.free_text(file.read()), tables))
-    if others or len(tables) != 1:
-        raise fbtrace.Unfit(f"{path}: one table is asked for, and nothing else")
-    return next(iter(tables.items()))
-
-
-def whole_class():
-    """The cells of the whole class."""
-    return read_table(EXAMPLES / "whole-class.table")[1]
+    text = (EXAMPLES / f"{name}.table").read_text()
+    list(fbtrace.outside_tables(fbtrace.free_text(text), tables))
+    return tables[name]
 
 
 def in_order(cells):
@@ -57,7 +61,13 @@ def lines_of(ran, path, command):
     return lines
 
 
-def verdict_on(path, program):
-    """The line that `check` prints of the one table of a file, and its faults, as words."""
-    lines = lines_of(run(program, "check", path), path, "check")
-    return lines[0], [line.split(" ") for line in lines[1:]]
+def read_table(path, program):
+    """The one table of a file."""
+    verdict, *faults = lines_of(run(program, "check", path), path, "check")
+    tables = {}
+    with open(path, encoding="utf-8", errors="replace", newline="") as file:
+        others = list(fbtrace.outside_tables(fbtrace.free_text(file.read()), tables))
+    if others or len(tables) != 1:
+        raise fbtrace.Unfit(f"{path}: one table is asked for, and nothing else")
+    ((name, cells),) = tables.items()
+    return Table(name, cells, verdict, [fault.split(" ") for fault in faults])
