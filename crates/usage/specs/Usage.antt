@@ -10,7 +10,7 @@ pub record Page : Type 0 where
   pub example : List ℕ
   pub statuses : List ℕ
 
--- The commands that take a file.
+-- The commands that take a setup or a text of tables, and run or judge it.
 abbrev pub file_pages : List Page
 file_pages =
     record {
@@ -48,7 +48,12 @@ file_pages =
       example = codes "race examples/tour.setup";
       statuses = codes "0 1 3 4 5 6 7";
     }
-    ∷ record {
+    ∷ []
+
+-- The commands that study a table or a run.
+abbrev pub study_pages : List Page
+study_pages =
+    record {
       name = codes "narrow";
       words = codes "narrow TABLE";
       does = codes "prints the largest part of a table that is in the class";
@@ -127,7 +132,7 @@ other_pages =
 
 -- The commands.
 abbrev pub pages : List Page
-pages = file_pages ++ other_pages
+pages = file_pages ++ (study_pages ++ other_pages)
 
 -- The statuses, and what they mean.
 abbrev pub statuses : List (List ℕ)

@@ -2,8 +2,8 @@
 //! manual and the completion of words are made from what is printed here.
 #![tactic(auto)]
 
-ghost use Rattle.std.specs.Prelude.{◌≡◌, option_map};
-ghost use Rattle.usage.specs.Usage.{help_text, other_pages, page_named, pages, version_text};
+ghost use Rattle.std.specs.Prelude.{◌≡◌, ◌++◌, option_map};
+ghost use Rattle.usage.specs.Usage.{help_text, other_pages, page_named, pages, study_pages, version_text};
 
 #[cfg(test)]
 mod tests;
@@ -80,6 +80,16 @@ pub fn page_named(name: &str) -> Option<&'static str>
              example: ./futurebus race examples/tour.setup\n\
              statuses: 0 1 3 4 5 6 7\n",
         ),
+        _ => study_page_named(name),
+    }
+}
+
+/// The same of a command that studies a table or a run, or takes no file.
+fn study_page_named(name: &str) -> Option<&'static str>
+    ensures { option_map (λ text. text.now) result
+        ≡ page_named name.now (study_pages ++ other_pages) }
+{
+    match name {
         "narrow" => Some(
             "narrow TABLE: prints the largest part of a table that is in the class\n\
              example: ./futurebus narrow examples/half-exclusive.table\n\
