@@ -4,7 +4,7 @@ use Rattle.backplane.specs.Machine.{configuration}
 use Rattle.setup_text.specs.declared.fault.SetupFault.{SetupFault}
 use Rattle.fb_cli.specs.declared.answers.Answer.{Answer}
 use Rattle.fb_cli.specs.declared.answers.Reply.{Reply}
-use Rattle.fb_cli.specs.declared.told.Told.{Told}
+use Rattle.fb_cli.specs.Told.{Told}
 use Rattle.audit.specs.declared.finding.Finding.{Finding}
 use Rattle.run_text.specs.RunText.{events_text}
 use Rattle.fb_cli.specs.Command.{Output, Outcome, Files, Role, Refusal, refusal_output, status_of, fault_output, Command, Found, none, found, Ends, EndsAs, IsUnread, known}
