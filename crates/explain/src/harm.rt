@@ -9,12 +9,37 @@ use std::alloc::Global;
 fn say_harm(text: &mut Text, harm: &str, line: u32) -> Result<(), NoMemory> {
     let line = u64::from(line);
     match harm {
-        "reply" => counted(text, "a read of line ", line, " got a word that is not the latest.\n"),
-        "owners" => counted(text, "two boards own line ", line, ": each has it in M or O.\n"),
-        "shared" => counted(text, "a board has line ", line, " in M or E, and another has a copy.\n"),
-        "words" => counted(text, "a copy of line ", line, " does not have the latest words.\n"),
+        "reply" => counted(
+            text,
+            "a read of line ",
+            line,
+            " got a word that is not the latest.\n",
+        ),
+        "owners" => counted(
+            text,
+            "two boards own line ",
+            line,
+            ": each has it in M or O.\n",
+        ),
+        "shared" => counted(
+            text,
+            "a board has line ",
+            line,
+            " in M or E, and another has a copy.\n",
+        ),
+        "words" => counted(
+            text,
+            "a copy of line ",
+            line,
+            " does not have the latest words.\n",
+        ),
         "memory" => {
-            counted(text, "memory does not have the latest words of line ", line, "")?;
+            counted(
+                text,
+                "memory does not have the latest words of line ",
+                line,
+                "",
+            )?;
             say(text, ", and no board owns it.\n")
         }
         _ => say(text, "there is a harm.\n"),
