@@ -15,4 +15,4 @@ mod tests;
 mod verdict;
 
 pub use laws::audits_are_spelled;
-pub use verdict::{harm_word, write_verdict};
+pub use verdict::write_verdict;

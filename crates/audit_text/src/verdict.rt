@@ -8,7 +8,7 @@ use audit::{Audit, Finding, Harm};
 use fb_text::Text;
 
 /// The word of a harm.
-pub fn harm_word(harm: Harm) -> &'static str
+fn harm_word(harm: Harm) -> &'static str
     ensures word { result.now ≡ harm_word harm }
     ensures short { length result.now ≤ 6 }
 {

@@ -8,7 +8,6 @@ ghost use Rattle.explain.specs.Extends.{Extends};
 
 use crate::asked::words_reason;
 use crate::files::{length_reason, unread_reason};
-use crate::harm::harm_reason;
 use crate::texts::{alone_reason, schedule_reason, setup_reason, tables_reason};
 use crate::trace::trace_reason;
 use fb_text::Text;
@@ -74,20 +73,6 @@ pub fn explain_trace(
     ensures none { OnErr result (text.new.bytes ≡ text.old.bytes) }
 {
     append(text, trace_reason(alloc, bytes, trace))
-}
-
-/// Extends what the harm of this word is, after the event of this number, on this line of memory.
-pub fn explain_harm(
-    alloc: Global,
-    harm: &str,
-    event: u32,
-    line: u32,
-    text: &mut Text,
-) -> Result<(), NoMemory>
-    ensures appends { Extends text.old.bytes text.new.bytes }
-    ensures none { OnErr result (text.new.bytes ≡ text.old.bytes) }
-{
-    append(text, harm_reason(alloc, harm, event, line))
 }
 
 /// Extends why words ask for no command.

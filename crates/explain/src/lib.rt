@@ -7,7 +7,6 @@ mod expected;
 mod explaining;
 mod fault;
 mod files;
-mod harm;
 mod line;
 mod nearest;
 mod numbers;
@@ -28,8 +27,8 @@ mod verdict;
 mod wanted;
 
 pub use explaining::{
-    explain_alone, explain_harm, explain_length, explain_schedule, explain_setup, explain_tables,
-    explain_trace, explain_unread, explain_words,
+    explain_alone, explain_length, explain_schedule, explain_setup, explain_tables, explain_trace,
+    explain_unread, explain_words,
 };
 pub use no_memory::NoMemory;
 

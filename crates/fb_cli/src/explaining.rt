@@ -10,21 +10,21 @@ ghost use Rattle.fb_cli.specs.Replies.{ComesTo, IsReady, answer_output, let_go};
 
 use crate::answers::{Answer, Outcome, Refusal, Reply, refusal_line};
 use crate::checking::is_book;
+use crate::harm::explain_harm;
 use crate::helping::say;
 use crate::opening::limit_of;
 use crate::role::Role;
 use crate::rows::{
-    exhibit_after, file_after, file_and_seed_after, files_after, kind_after, page_after, seed_after,
-    text_alone,
+    exhibit_after, file_after, file_and_seed_after, files_after, kind_after, page_after,
+    seed_after, text_alone,
 };
 use crate::seen::Seen;
 use crate::told::Told;
 use crate::{auditing, checking, exhibiting, narrowing, replaying, running, showing};
 use audit::Finding;
-use audit_text::harm_word;
 use explain::{
-    explain_alone, explain_harm, explain_length, explain_schedule, explain_setup, explain_tables,
-    explain_trace, explain_unread, explain_words,
+    explain_alone, explain_length, explain_schedule, explain_setup, explain_tables, explain_trace,
+    explain_unread, explain_words,
 };
 use fb_edge::Shelf;
 use fb_text::Text;
@@ -216,13 +216,7 @@ fn explain_finding(
 ) -> Result<(), NoMemory>
     ensures { Extends text.old.bytes text.new.bytes }
 {
-    explain_harm(
-        alloc,
-        harm_word(finding.harm),
-        finding.event,
-        finding.line.0,
-        text,
-    )?;
+    explain_harm(alloc, finding, text)?;
     explain_setup(alloc, &seen.setup, text)
 }
 

@@ -8,8 +8,7 @@ const NO_CELLS: &str =
     "memory 1\ntable none\nend\nboard 1 number 5 table none plain choose first\nwrite 2 7\nend\n";
 
 /// A board that writes without the bus, and gives a line up without telling memory.
-const SILENT: &str =
-    "memory 2\ntable silent\nI write = M\nM read = M\nend\n\
+const SILENT: &str = "memory 2\ntable silent\nI write = M\nM read = M\nend\n\
     board 1 number 2 table silent cached 1 1 choose first\nwrite 0 5\nwrite 4 6\nend\n";
 
 #[test]
@@ -26,7 +25,8 @@ fn what_does_no_harm_is_sound(rt: HostRuntime) -> Result<(), Fail> {
 
 #[test]
 fn the_first_harm_is_told(rt: HostRuntime) -> Result<(), Fail> {
-    let lines = "local 1 I to M done write 0 5\nlocal 1 I to M done write 4 6\nunsound 2 memory 0\n";
+    let lines =
+        "local 1 I to M done write 0 5\nlocal 1 I to M done write 4 6\nunsound 2 memory 0\n";
     for words in ["audit F S", "audit F seed 1"] {
         let (printed, ended) = said(&rt, rt.alloc(), words, &[("F", SILENT), ("S", "1")])?;
         assert_eq!(rt; printed.as_slice(), lines.as_bytes(), "{words}");

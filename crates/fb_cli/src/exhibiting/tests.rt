@@ -28,7 +28,13 @@ fn each_exhibit_ends_with_its_harm(rt: HostRuntime) -> Result<(), Fail> {
 
 #[test]
 fn other_numbers_are_refused(rt: HostRuntime) -> Result<(), Fail> {
-    for words in ["exhibit 0", "exhibit 13", "exhibit 01", "exhibit x", "exhibit"] {
+    for words in [
+        "exhibit 0",
+        "exhibit 13",
+        "exhibit 01",
+        "exhibit x",
+        "exhibit",
+    ] {
         let (printed, ended) = said(&rt, rt.alloc(), words, &[])?;
         assert_eq!(rt; printed.as_slice(), b"fault words\n".as_slice(), "{words}");
         assert_eq!(rt; ended, 2, "{words}");
