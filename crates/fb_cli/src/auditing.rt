@@ -1,6 +1,6 @@
 //! `audit`: turns of any tables, accepted or not, up to the first harm.
 
-ghost use Rattle.std.specs.Prelude.{◌≡◌, ◌≤◌, List, None, Some, length, IfOk, IfErr, IfSome};
+ghost use Rattle.std.specs.Prelude.{◌≡◌, ◌≤◌, ℕ, List, None, Some, length, IfOk, IfErr, IfSome};
 ghost use Rattle.std.specs.List.{AllByRecursion};
 ghost use Rattle.fb_edge.specs.Outside.{Rose};
 ghost use Rattle.trace_text.specs.Ranges.{InRange};
