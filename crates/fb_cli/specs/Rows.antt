@@ -97,15 +97,20 @@ fileless_rows =
     ∷ row (after (codes "help") (one page_of)) printing
     ∷ []
 
+-- The rows of the commands that audit a setup, and of those that open no file.
+abbrev pub audit_rows : List Row
+audit_rows =
+    row (after (codes "audit") two) (λ names. audit names.0 names.1)
+    ∷ row (after (codes "audit") one_and_seed) (λ named. audit_seeded named.0 named.1)
+    ∷ fileless_rows
+
 -- The rows of the commands that study a table or a run, and of those that open no file.
 abbrev pub study_rows : List Row
 study_rows =
     row (after (codes "narrow") (one Some)) narrow
     ∷ row (after (codes "traffic") two) (λ names. traffic names.0 names.1)
     ∷ row (after (codes "traffic") one_and_seed) (λ named. traffic_seeded named.0 named.1)
-    ∷ row (after (codes "audit") two) (λ names. audit names.0 names.1)
-    ∷ row (after (codes "audit") one_and_seed) (λ named. audit_seeded named.0 named.1)
-    ∷ fileless_rows
+    ∷ audit_rows
 
 -- The rows of the commands that take no threads and no other command's words.
 abbrev pub quiet_rows : List Row

@@ -85,6 +85,7 @@ fn judge_schedule<F: Shelf>(
 ) -> Result<Told, Reply>
     ensures free { IfOk result (λ told. IfSome (F.file shelf.old)
         (λ file. audit_refusal setup (file name.now) ≡ None)) }
+    ensures done { IfOk result (λ told. (told_output told).status ≡ 0) }
     ensures output { IfOk result (λ told. IfSome (F.file shelf.old)
         (λ file. (turns : List ℕ) × AreTurns setup turns (file name.now)
         × (told_output told ≡ record { status = 0; text = audit_text (audited setup turns) }))) }

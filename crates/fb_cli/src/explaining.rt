@@ -5,7 +5,7 @@ ghost use Rattle.fb_edge.specs.Outside.{Rose};
 ghost use Rattle.explain.specs.Extends.{Extends};
 ghost use Rattle.fb_cli.specs.Output.{refusal_output};
 ghost use Rattle.fb_cli.specs.Explain.{explained};
-ghost use Rattle.fb_cli.specs.Rows.{command_in, explained_rows, fileless_rows, study_rows};
+ghost use Rattle.fb_cli.specs.Rows.{audit_rows, command_in, explained_rows, fileless_rows, study_rows};
 ghost use Rattle.fb_cli.specs.Replies.{ComesTo, IsReady, answer_output, let_go};
 
 use crate::answers::{Answer, Outcome, Refusal, Reply, refusal_line};
@@ -61,6 +61,25 @@ fn ready_alone(alloc: Global, words: &[String], seen: &mut Seen) -> Result<(), R
     Err(Reply::Refused(Refusal::NoRow))
 }
 
+/// What stands before a setup is audited is done, or before a command that opens no file.
+fn ready_to_audit<F: Shelf>(
+    alloc: Global,
+    words: &[String],
+    shelf: &mut F,
+    seen: &mut Seen,
+) -> Result<(), Reply>
+    ensures { IsReady (command_in audit_rows (map string_bytes words.now)) (F.file shelf.old)
+        (Rose (F.faults shelf.old) (F.faults shelf.new)) result }
+{
+    if let Some((setup, schedule)) = files_after("audit", words) {
+        return done(auditing::ready(alloc, setup, schedule, shelf, seen));
+    }
+    if let Some((setup, seed)) = file_and_seed_after("audit", words) {
+        return done(auditing::ready_seeded(alloc, setup, seed, shelf, seen));
+    }
+    ready_alone(alloc, words, seen)
+}
+
 /// What stands before a table or a run is studied is done, or before a command that opens no file.
 fn ready_to_study<F: Shelf>(
     alloc: Global,
@@ -80,13 +99,7 @@ fn ready_to_study<F: Shelf>(
     if let Some((setup, _)) = file_and_seed_after("traffic", words) {
         return done(running::ready_setup(alloc, setup, shelf, seen));
     }
-    if let Some((setup, schedule)) = files_after("audit", words) {
-        return done(auditing::ready(alloc, setup, schedule, shelf, seen));
-    }
-    if let Some((setup, seed)) = file_and_seed_after("audit", words) {
-        return done(auditing::ready_seeded(alloc, setup, seed, shelf, seen));
-    }
-    ready_alone(alloc, words, seen)
+    ready_to_audit(alloc, words, shelf, seen)
 }
 
 /// What stands before the command of words is done: nothing, or the reply with which it stops.
