@@ -28,7 +28,7 @@ class Local(typing.NamedTuple):
     text: str
     hit: str
     miss: str
-    event: str | None
+    event: typing.Optional[str]
 
 
 class Answer(typing.NamedTuple):
@@ -49,7 +49,7 @@ class Move(typing.NamedTuple):
     board: int
     access: str
     word: int
-    event: str | None
+    event: typing.Optional[str]
     used: tuple
 
 
@@ -62,6 +62,7 @@ def alternatives(cells, state, event):
 
 @functools.cache
 def local(text):
+    """An alternative for an access. Without a bus event nobody asserts CH."""
     result, _, event = text.partition(" ")
     hit, _, miss = result.removeprefix("CH:").partition("/")
     return Local(text, hit if event else miss or hit, miss or hit, event or None)
@@ -69,11 +70,13 @@ def local(text):
 
 @functools.cache
 def answer(text):
+    """An alternative for a bus event."""
     state, *signals = text.split(" ")
     return Answer(text, state, *(signal in signals for signal in ("CH", "DI", "SL")))
 
 
 def put(words, word, value):
+    """The words with one of them changed."""
     return tuple(value if at == word else other for at, other in enumerate(words))
 
 
