@@ -1,8 +1,11 @@
 -- Rounds of the auditor: one from which nothing comes leaves the audit as it is, and so do all later ones.
-use Rattle.std.proofs.Common.{◌≡◌, ℕ, zero, suc, ◌+◌, ◌<◌, ◌≤◌, List, [], ◌∷◌, ◌++◌, Some, None, Option, length, ap, refl, sym, subst, ◌∙◌, inl, inr, ◌⊎◌, arith, length-append}
-use Rattle.bus_model.specs.Places.{repeated}
+use Rattle.std.proofs.Common.{◌≡◌, ℕ, zero, suc, ◌+◌, ◌<◌, ◌≤◌, List, [], ◌∷◌, ◌++◌, Some, None, Option, length, drop, drop-cons, get_or, ap, refl, sym, subst, ◌∙◌, inl, inr, ◌⊎◌, arith, length-append, add-one}
+use Rattle.bus_model.specs.Places.{places_from, repeated}
+use Rattle.bus_model.specs.Setup.{Setup}
 use Rattle.bus_model.specs.Turns.{Did, Finished, Turn, Waits}
 use Rattle.audit.specs.declared.finding.Finding.{Finding}
+use Rattle.bus_model.specs.Events.{Event}
+use Rattle.audit.specs.Parts.{event_in}
 use Rattle.audit.specs.Turns.{any_turn}
 use Rattle.audit.specs.First.{Audit}
 use Rattle.audit.specs.Playing.{after_turn, audit_turn, audit_turns, led_to, with_event}
@@ -67,35 +70,77 @@ same_setup a (board ∷ boards) = same_setup (audit_turn a board a.finding) boar
     one None = turned (any_turn a.setup (led_to a) board)
     one (Some finding) = refl
 
--- ---- as the code makes them
+-- A turn, where the turns that are left lead to the same audit.
+pub turns_next :
+    (a later start : Audit) (board : ℕ) (rest boards all : List ℕ) → later ≡ audit_turn a board a.finding
+    → rest ≡ board ∷ boards → audit_turns a rest ≡ audit_turns start all
+    → audit_turns later boards ≡ audit_turns start all
+turns_next a later start board rest boards all turned left e =
+    ap (λ x. audit_turns x boards) turned ∙ sym (ap (audit_turns a) left) ∙ e
 
--- One more turn.
-pub turn_more :
-    (a now next : Audit) (board : ℕ) (boards rest : List ℕ) → boards ≡ board ∷ rest → audit_turns now boards ≡ a
-    → next ≡ audit_turn now board now.finding → audit_turns next rest ≡ a
-turn_more a now next board boards rest split h n =
-    ap (λ x. audit_turns x rest) n ∙ sym (ap (audit_turns now) split) ∙ h
+pub setup_next :
+    (a later : Audit) (board : ℕ) (setup : Setup) → later ≡ audit_turn a board a.finding → a.setup ≡ setup
+    → later.setup ≡ setup
+setup_next a later board setup turned e = ap (λ (x : Audit). x.setup) turned ∙ same_setup a (board ∷ []) ∙ e
 
-pub turn_setup :
-    (now next : Audit) (board : ℕ) → next ≡ audit_turn now board now.finding → next.setup ≡ now.setup
-turn_setup now next board n = ap (λ (a : Audit). a.setup) n ∙ same_setup now (board ∷ [])
+-- No turn is left.
+pub turns_over :
+    (a start : Audit) (rest all : List ℕ) → rest ≡ [] → audit_turns a rest ≡ audit_turns start all
+    → a ≡ audit_turns start all
+turns_over a start rest all none e = sym (ap (audit_turns a) none) ∙ e
 
--- The last round adds no event.
-pub round_last :
-    (a now next : Audit) (boards : List ℕ) (n : ℕ) → audit_turns now (repeated n boards) ≡ a
-    → next ≡ audit_turns now boards → length next.journal ≡ length now.journal → next ≡ a
-round_last a now next boards n h r long =
-    let still = turns_still now boards (sym (ap (λ (x : Audit). length x.journal) r) ∙ long) in
-    r ∙ still ∙ sym (rounds_still now boards n still) ∙ h
+-- The places that are left of a round.
+pub places_left :
+    {X : Type 0} (xs : List X) (first n : ℕ) → n < length xs
+    → drop n (places_from first xs) ≡ (n + first) ∷ drop (n + 1) (places_from first xs)
+places_left [] first n h = absurd (omega arith)
+places_left (x ∷ xs) first zero h = let e : first ≡ 0 + first = omega arith in ap (λ b. b ∷ places_from (suc first) xs) e
+places_left (x ∷ xs) first (suc n) h =
+    let e : n + suc first ≡ suc n + first = omega arith in
+    places_left xs (suc first) n (omega arith)
+    ∙ ap (λ b. b ∷ drop (n + 1) (places_from (suc first) xs)) e
+    ∙ ap (λ k. (suc n + first) ∷ drop k (places_from (suc first) xs)) (add-one n)
+    ∙ ap (λ k. (suc n + first) ∷ drop k (places_from first (x ∷ xs))) (sym (add-one (suc n)))
 
--- One more round.
-pub round_more :
-    (a now next : Audit) (boards : List ℕ) (n m : ℕ) → n ≡ suc m → audit_turns now (repeated n boards) ≡ a
-    → next ≡ audit_turns now boards → audit_turns next (repeated m boards) ≡ a
-round_more a now next boards n m is h r =
-    ap (λ x. audit_turns x (repeated m boards)) r ∙ sym (round_first now boards m)
-    ∙ sym (ap (λ k. audit_turns now (repeated k boards)) is) ∙ h
+pub no_places_left :
+    {X : Type 0} (xs : List X) (first n : ℕ) → length xs ≤ n → drop n (places_from first xs) ≡ []
+no_places_left [] first zero h = refl
+no_places_left [] first (suc n) h = refl
+no_places_left (x ∷ xs) first zero h = absurd (omega arith)
+no_places_left (x ∷ xs) first (suc n) h = no_places_left xs (suc first) n (omega arith)
 
-pub round_setup :
-    (now next : Audit) (boards : List ℕ) → next ≡ audit_turns now boards → next.setup ≡ now.setup
-round_setup now next boards r = ap (λ (a : Audit). a.setup) r ∙ same_setup now boards
+-- A round of which nothing came, and the rounds that are left.
+pub still_over :
+    (a later start : Audit) (boards all : List ℕ) (n : ℕ) → later ≡ audit_turns a boards
+    → length later.journal ≡ length a.journal → audit_turns a (repeated n boards) ≡ audit_turns start all
+    → later ≡ audit_turns start all
+still_over a later start boards all n turned same e =
+    let long : length (audit_turns a boards).journal ≡ length a.journal =
+    sym (ap (λ (x : Audit). length x.journal) turned) ∙ same in
+    let still = turns_still a boards long in
+    turned ∙ still ∙ sym (rounds_still a boards n still) ∙ e
+
+-- A round, where the rounds that are left lead to the same audit.
+pub rounds_next :
+    (a later start : Audit) (boards all : List ℕ) (n left : ℕ) → later ≡ audit_turns a boards → n ≡ suc left
+    → audit_turns a (repeated n boards) ≡ audit_turns start all
+    → audit_turns later (repeated left boards) ≡ audit_turns start all
+rounds_next a later start boards all n left turned one e =
+    ap (λ x. audit_turns x (repeated left boards)) turned ∙ sym (round_first a boards left)
+    ∙ ap (λ k. audit_turns a (repeated k boards)) (sym one) ∙ e
+
+-- A turn that comes to an event.
+pub turn_of_event : (t : Turn) (event : Event) → Some event ≡ event_in t → t ≡ Did event
+turn_of_event (Did other) event e = let same : other ≡ event = cc in ap Did same
+turn_of_event (Waits why) event e = cc
+turn_of_event Finished event e = cc
+
+-- What is left of a schedule, from a turn on.
+pub turns_left : (xs : List ℕ) (n d : ℕ) → n < length xs → drop n xs ≡ get_or xs n d ∷ drop (n + 1) xs
+turns_left xs n d h = rw (add-one n) (drop-cons xs n d h)
+
+-- No round changes the setup.
+pub setup_of_round :
+    (a later : Audit) (boards : List ℕ) (setup : Setup) → later ≡ audit_turns a boards → a.setup ≡ setup
+    → later.setup ≡ setup
+setup_of_round a later boards setup turned e = ap (λ (x : Audit). x.setup) turned ∙ same_setup a boards ∙ e

@@ -1,5 +1,5 @@
 -- The words of memory cut into lines, line by line.
-use Rattle.std.proofs.Common.{◌≡◌, ℕ, zero, suc, ◌+◌, ◌*◌, ◌/◌, ◌<◌, ◌≤◌, List, [], ◌∷◌, ◌++◌, length, get_or, take, refl, ap, sym, ◌∙◌, arith, add-one}
+use Rattle.std.proofs.Common.{◌≡◌, ℕ, zero, suc, ◌+◌, ◌*◌, ◌/◌, ◌<◌, ◌≤◌, List, [], ◌∷◌, ◌++◌, length, get_or, map, take, refl, ap, sym, ◌∙◌, arith, add-one}
 use Rattle.std.proofs.lemmas.List.{take_all}
 use Rattle.bus_model.specs.Configuration.{lines_of_words}
 use Rattle.coherence.proofs.Opening.{length-lines_of_words}
@@ -44,3 +44,12 @@ line-more words lines next n d h e s =
 pub lines-all :
     (words : List ℕ) (n : ℕ) → length words / 4 ≤ n → take n (lines_of_words words) ≡ lines_of_words words
 lines-all words n h = take_all n (lines_of_words words) (omega (arith, length-lines_of_words words))
+
+-- One more value that is the same for each element.
+pub same_next :
+    {A B : Type 0} (x : B) (xs : List A) (n : ℕ) → n < length xs
+    → map (λ (a : A). x) (take n xs) ++ x ∷ [] ≡ map (λ (a : A). x) (take (n + 1) xs)
+same_next x [] n h = absurd (omega arith)
+same_next x (a ∷ xs) zero h = refl
+same_next x (a ∷ xs) (suc n) h =
+    rw (add-one (suc n)) (ap (λ ys. x ∷ ys) (same_next x xs n (omega arith) ∙ ap (λ k. map (λ (b : _). x) (take k xs)) (add-one n)))

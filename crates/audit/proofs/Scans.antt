@@ -38,15 +38,3 @@ pub count-rest :
     → m ≡ n + cond (p (get_or xs i d)) 1 0
     → n + count_where p (drop i xs) ≡ m + count_where p (drop (i + 1) xs)
 count-rest p xs i n m d l e = rw (add-one, drop-cons xs i d l) (omega arith)
-
--- One more of the same element.
-pub same-more :
-    {X Y : Type 0} (y : Y) (xs : List X) (ys more : List Y) (i : ℕ) → i < length xs
-    → ys ≡ map (λ x. y) (take i xs) → more ≡ ys ++ y ∷ [] → more ≡ map (λ x. y) (take (i + 1) xs)
-same-more {X = X} y xs ys more i low e m =
-    m ∙ ap (λ zs. zs ++ y ∷ []) e ∙ sym (next xs i low) ∙ ap (λ n. map (λ x. y) (take n xs)) (sym (add-one i))
-  where
-    next : (xs : List X) (i : ℕ) → i < length xs → map (λ x. y) (take (suc i) xs) ≡ map (λ x. y) (take i xs) ++ y ∷ []
-    next [] i low = absurd (omega arith)
-    next (x ∷ xs) zero low = refl
-    next (x ∷ xs) (suc i) low = ap (λ zs. y ∷ zs) (next xs i (omega arith))

@@ -1,5 +1,5 @@
 -- The auditor's state, event by event.
-use Rattle.std.proofs.Common.{◌≡◌, ℕ, suc, ◌*◌, ◌^◌, ◌<◌, List, [], ◌∷◌, ◌++◌, Some, None, Option, length, ap, refl, sym, subst, ◌∙◌, arith}
+use Rattle.std.proofs.Common.{◌≡◌, ℕ, suc, ◌*◌, ◌^◌, ◌<◌, ◌≤◌, List, [], ◌∷◌, ◌++◌, Some, None, Option, length, ap, refl, sym, subst, ◌∙◌, arith, length-append}
 use Rattle.flat_memory.specs.Flats.{IsLatest}
 use Rattle.bus_model.specs.Places.{repeated}
 use Rattle.bus_model.specs.Setup.{Setup, WellFormed, access_count, board_places, line_count}
@@ -15,16 +15,18 @@ use Rattle.audit.specs.Filled.{filled}
 use Rattle.audit.specs.Steps.{after_any, after_any_all}
 use Rattle.audit.specs.Turns.{any_played, any_turn, events_of_any}
 use Rattle.audit.specs.Harms.{done_in, first_of_harms, harm_at, reply_harm}
+use Rattle.audit.specs.declared.harms.Touched.{Touched}
 use Rattle.audit.specs.Touched.{harm_within, lowest_touched, touched}
+use Rattle.audit.specs.Parts.{DoneWithin}
 use Rattle.audit.specs.First.{AllDone, Audit, Audited, audited, first_harm, found_or, up_to}
 use Rattle.audit.specs.Playing.{audit_turns, unbegun}
 use Rattle.audit.specs.Auditor.{StandsFor}
 use Rattle.audit.proofs.Ending.{Watched, after_any_all-append, any_and_rest, any_turns-append, played_ends, turns_watched, watched_opening}
 use Rattle.audit.proofs.Charges.{few_events}
+use Rattle.audit.proofs.Growing.{setup_of_round}
 use Rattle.audit.proofs.Audits.{schedule_audit, turns_joined}
-use Rattle.audit.proofs.Growing.{round_setup}
 use Rattle.audit.proofs.Legal.{any_turn_can}
-use Rattle.audit.proofs.Watching.{few_now, found_next, watched_now}
+use Rattle.audit.proofs.Watching.{done_within, few_now, found_next, watched_now}
 
 -- Before the first turn.
 pub stands_opening : (setup : Setup) → WellFormed setup → StandsFor setup [] (opening setup) setup.memory None
@@ -106,6 +108,41 @@ module _
       (harm_within (harm_at setup.memory (entries_with (entries journal) event) (led_now i)) (whole i))
       (touched setup (h.parts i) event)))))
 
+  -- The finding after the event, with its number.
+  pub found_at :
+      (number : ℕ) (items : List Event) (touching : Touched) (result : Option (Harm × ℕ)) (found : Option Finding)
+      → finding ≡ None → items ≡ journal ++ event ∷ [] → number ≡ length items → touching ≡ touched setup c event
+      → result
+      ≡ first_of_harms (reply_harm setup.memory (entries journal) (done_in event))
+      (lowest_touched
+      (harm_within (harm_at setup.memory (entries_with (entries journal) event) next) (length next.memory)) touching)
+      → found ≡ found_or number result None → found ≡ first_harm setup (journal ++ event ∷ [])
+  found_at number items touching result found none pushed long touch is come =
+      let more : number ≡ suc (length journal) =
+      let l = length-append journal (event ∷ []) in let m = ap (λ (es : List Event). length es) pushed in
+      omega (arith, l, m, long) in
+      come ∙ ap (λ k. found_or k result None) more
+      ∙ sym (found_now (length next.memory) result none lines_next
+      (is
+      ∙ ap (λ t.
+      first_of_harms (reply_harm setup.memory (entries journal) (done_in event))
+      (lowest_touched
+      (harm_within (harm_at setup.memory (entries_with (entries journal) event) next) (length next.memory)) t)) touch))
+
+  -- What the code asks of the words and the lines after the event.
+  pub words_fit : length flat ≡ 4 * length next.memory
+  words_fit =
+      let l = lines_next in let whole : length setup.memory ≡ 4 * line_count setup = well.memory in let kept = h.long in
+      omega (arith, l, whole, kept)
+
+  pub lines_few : length next.memory ≤ 4096
+  lines_few = let l = lines_next in let most = well.lines_high in omega (arith, l, most)
+
+  pub done_fits : DoneWithin (length flat) (done_in event)
+  done_fits =
+      subst (λ k. DoneWithin k (done_in event)) (sym h.long)
+      (done_within setup (after_any_all setup (opening setup) journal) event well event_can)
+
 -- An audit that is that of a schedule keeps what holds of every audit.
 pub audit_holds :
     (setup : Setup) (schedule : List ℕ) (journal : List Event) (c : Configuration) (flat : List ℕ)
@@ -124,24 +161,34 @@ audit_holds setup schedule journal c flat finding well h e = record {
         ∙ ap (λ o. up_to o (any_played setup schedule)) (ap (λ (a : Audit). a.finding) e ∙ none)
 
 -- The turns of a schedule and then rounds come to the audit.
-pub audit_ended :
+pub audit_made :
+    (setup : Setup) (schedule : List ℕ) (turned ended : Audit) → turned ≡ audit_turns (unbegun setup) schedule
+    → ended ≡ audit_turns turned (repeated (8 * access_count setup) (board_places setup))
+    → ended ≡ audited setup schedule
+audit_made setup schedule turned ended t e =
+    e ∙ ap (λ a. audit_turns a (repeated (8 * access_count setup) (board_places setup))) t
+    ∙ sym (turns_joined (unbegun setup) schedule (repeated (8 * access_count setup) (board_places setup)))
+    ∙ schedule_audit setup schedule
+
+-- The turns of a schedule after the opening, and then the rounds of the setup.
+pub audit_comes :
     (setup : Setup) (schedule : List ℕ) (opened turned ended : Audit) → opened ≡ unbegun setup
     → turned ≡ audit_turns opened schedule
     → ended ≡ audit_turns turned (repeated (8 * access_count turned.setup) (board_places turned.setup))
     → ended ≡ audited setup schedule
-audit_ended setup schedule opened turned ended o t e =
-    let made : turned ≡ audit_turns (unbegun setup) schedule = t ∙ ap (λ a. audit_turns a schedule) o in
-    let same : turned.setup ≡ setup = round_setup (unbegun setup) turned schedule made in
-    e
-    ∙ (λ i. audit_turns (made i) (repeated (8 * access_count (same i)) (board_places (same i))))
-    ∙ sym (turns_joined (unbegun setup) schedule (repeated (8 * access_count setup) (board_places setup)))
-    ∙ schedule_audit setup schedule
+audit_comes setup schedule opened turned ended o t e =
+    let made = t ∙ ap (λ a. audit_turns a schedule) o in
+    let same = setup_of_round (unbegun setup) turned schedule setup made refl in
+    audit_made setup schedule turned ended made
+    (e ∙ ap (λ s. audit_turns turned (repeated (8 * access_count s) (board_places s))) same)
 
--- And the setup is then the one of the audit.
-pub ended_holds :
-    (setup : Setup) (schedule : List ℕ) (ended : Audit) (c : Configuration) (flat : List ℕ)
-    → StandsFor ended.setup ended.journal c flat ended.finding → ended ≡ audited setup schedule → Audited ended
-ended_holds setup schedule ended c flat h made =
-    let same : ended.setup ≡ setup = ap (λ (a : Audit). a.setup) made in
-    audit_holds ended.setup schedule ended.journal c flat ended.finding h.well h
-    (ap (λ s. audited s schedule) same ∙ sym made)
+-- It keeps what holds of every audit.
+pub comes_holds :
+    (setup : Setup) (schedule : List ℕ) (journal : List Event) (c : Configuration) (flat : List ℕ)
+    (finding : Option Finding) (later : Setup) → StandsFor later journal c flat finding
+    → record { setup = later; journal = journal; finding = finding } ≡ audited setup schedule
+    → Audited (record { setup = later; journal = journal; finding = finding })
+comes_holds setup schedule journal c flat finding later h e =
+    let same : later ≡ setup = ap (λ (a : Audit). a.setup) e in
+    audit_holds later schedule journal c flat finding h.well h
+    (ap (λ s. audited s schedule) same ∙ sym e)

@@ -37,7 +37,7 @@ Due command files shelf_rose text =
 
 -- How a call that does a command ends: each status comes only where its field says. `before` and
 -- `after` are what the sink took.
-record FormerAnswers (command : Command) (files : Option Files) (shelf_rose sink_rose : Type 0)
+pub record FormerAnswers (command : Command) (files : Option Files) (shelf_rose sink_rose : Type 0)
     (before after : Option (List ℕ)) (status : ℕ) : Type 0 where
   done : status ≡ 0 → Taken command files before after 0
   refused : status ≡ 1 → Taken command files before after 1
@@ -87,6 +87,8 @@ is_outcome outcomes.Malformed =
 is_outcome outcomes.TooLong =
     record { most = inl (omega arith); not_2 = λ two. omega (arith, two); not_4_to_6 = λ high. omega (arith, high) }
 is_outcome outcomes.NothingLeft =
+    record { most = inr refl; not_2 = λ two. omega (arith, two); not_4_to_6 = λ high. omega (arith, high) }
+is_outcome outcomes.Harmful =
     record { most = inr refl; not_2 = λ two. omega (arith, two); not_4_to_6 = λ high. omega (arith, high) }
 
 -- The status of a command, or want of memory, unless a count rose.

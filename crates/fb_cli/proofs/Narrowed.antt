@@ -50,13 +50,17 @@ narrow_read name files t narrowed read some =
     subst (λ x. IfOk x (λ table. narrow_of table ≡ Some narrowed)) (sym r) (sym some))
     read
 
+-- The answer, if there is one, says that no part of a table of this name is in the class.
+abbrev pub SaysNone : {E : Type 0} → Result Answer E → List ℕ → Type 0
+SaysNone came name =
+    IfOk came (λ a. answer_output a ≡ output 9 (codes "narrow " ++ (name ++ codes ": none")))
+
 -- and one without stops the command.
 pub narrow_stops :
     {E : Type 0} (name : List ℕ) (files : Option Files) (A : Type 0) (t : Table) (came : Result Answer E)
     → IfSome files (λ file. length (file name) ≤ limit_of roles.Setup)
     → IfSome files (λ file. alone_at (unread (file name)) ≡ Ok t) → None ≡ narrow_of t
-    → IfOk came (λ a. answer_output a ≡ output 9 (codes "narrow " ++ (t.name ++ codes ": none")))
-    → Stops (narrow name) files A (option_map_or Answered (result_ok came) (Refused NoMemory))
+    → SaysNone came t.name → Stops (narrow name) files A (option_map_or Answered (result_ok came) (Refused NoMemory))
 narrow_stops name files A t (Ok a) short read none is =
     on_both files
     (λ file s r. table_refusal name file t s r ∙ ap (unless_some t.name) (sym none) ∙ ap Some (sym is))

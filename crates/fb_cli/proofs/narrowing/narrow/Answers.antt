@@ -9,8 +9,8 @@ returns-in-Ok g c =
     (narrow_comes c.args.name.now (g.F.Shelf.file c.args.shelf.now) _ c.in-Ok.narrowed c.spelled.result
     c.in-Ok.ensures.ready c.in-Ok.ensures.narrowed c.spelled.ensures)
 
-pub returns-in-Err : goal.returns-in-Err
-returns-in-Err g c =
+pub returns : goal.returns
+returns g c =
     let command = narrow c.args.name.now in
     stops_come command.opens command.refusal command.prints (g.F.Shelf.file c.args.shelf.now) _ c.in-Err.reply
     c.in-Err.ensures.ready

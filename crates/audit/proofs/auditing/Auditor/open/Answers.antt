@@ -1,6 +1,6 @@
-use Rattle.std.proofs.Common.{◌≡◌, ◌∙◌, List, None, [], rules, subst, sym, ℕ}
-use Rattle.bus_model.specs.Configuration.{Configuration, opening}
-use Rattle.bus_model.specs.Events.{Event}
+use Rattle.std.proofs.Common.{[], None, ◌∙◌, subst, sym}
+use Rattle.bus_model.specs.Setup.{WellFormed}
+use Rattle.bus_model.specs.Configuration.{opening}
 use Rattle.audit.specs.Auditor.{StandsFor}
 use Rattle.audit.specs.Parts.{shown}
 use Rattle.audit.proofs.Standing.{stands_opening}
@@ -9,8 +9,9 @@ use Rattle.audit.proofs.auditing.Auditor.open.Goals as goal
 pub returns-clause-stands : goal.returns-clause-stands
 returns-clause-stands c =
     let setup = c.args.setup in
-    let words : c.new.result ≡ setup.memory = search rules in
-    subst (λ (journal : List Event). StandsFor setup journal (shown c.in_ok-parts.parts) c.new.result None) (sym c.new-journal.ensures.items)
-    (subst (λ (d : Configuration). StandsFor setup [] d c.new.result None) (sym c.in_ok-parts.ensures)
-    (subst (λ (flat : List ℕ). StandsFor setup [] (opening setup) flat None) (sym words)
-    (stands_opening setup c.memory.ensures.sound)))
+    let words = c.new.ensures ∙ c.in-Ok.ensures.items_if_clones_equal (λ x y same. same) ∙ c.memory.ensures.memory in
+    subst (λ events. StandsFor setup events (shown c.in_ok-parts.parts) c.new.result None)
+    (sym c.new-journal.ensures.items)
+    (subst (λ led. StandsFor setup [] led c.new.result None) (sym c.in_ok-parts.ensures)
+    (subst (λ flat. StandsFor setup [] (opening setup) flat None) (sym words)
+    (stands_opening setup (subst WellFormed c.setup.view_is c.setup.invariant))))

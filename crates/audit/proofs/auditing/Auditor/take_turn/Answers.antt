@@ -1,19 +1,20 @@
-use Rattle.std.proofs.Common.{◌∙◌, sym}
-use Rattle.audit.specs.Auditor.{audit_so_far}
+use Rattle.std.proofs.Common.{◌≡◌, subst}
+use Rattle.bus_model.specs.Turns.{Did}
 use Rattle.audit.specs.Parts.{shown}
-use Rattle.audit.proofs.Taking.{taken-did}
+use Rattle.audit.specs.Turns.{any_turn}
+use Rattle.audit.proofs.Growing.{turn_of_event}
 use Rattle.audit.proofs.Watching.{boards_now}
 use Rattle.audit.proofs.auditing.Auditor.take_turn.Goals as goal
 
 pub turn-requires-clause-boards : goal.turn-requires-clause-boards
 turn-requires-clause-boards c =
-    let a = c.args.self.now in
-    let h = c.requires.stands in
-    boards_now a.setup a.journal.items (shown a.parts) a.flat a.finding h.well h
+    let s = c.args.self.now in
+    boards_now s.setup s.journal.items (shown s.parts) s.flat s.finding c.requires.stands.well c.requires.stands
 
 pub go-requires-clause-turn : goal.go-requires-clause-turn
 go-requires-clause-turn c =
-    let a = c.args.self.now in
-    (c.args.board,
-    taken-did (audit_so_far a) c.args.board (shown a.parts) c.in-Some.event c.requires.stands.parts
-    (sym c.in-Some.is ∙ c.turn.ensures))
+    let s = c.args.self.now in (
+      c.args.board,
+      subst (λ x. any_turn s.setup x c.args.board ≡ Did c.in-Some.event) c.requires.stands.parts
+          (turn_of_event _ c.in-Some.event c.in-Some.ensures),
+    )

@@ -1,23 +1,19 @@
-use Rattle.std.proofs.Common.{◌∷◌, ◌+◌, ◌∙◌, ap, add-one, drop, drop-cons, get_or, sym}
+use Rattle.std.proofs.Common.{◌+◌, drop}
 use Rattle.audit.specs.Auditor.{audit_so_far}
-use Rattle.audit.specs.Playing.{audit_turns}
-use Rattle.audit.proofs.Growing.{turn_more, turn_setup}
+use Rattle.audit.proofs.Growing.{setup_next, turns_left, turns_next}
 use Rattle.audit.proofs.auditing.Auditor.take_turns.Goals as goal
 
 pub loop-place-preserved : goal.loop-place-preserved
 loop-place-preserved c =
-    let now = audit_so_far c.loop-place.self in
-    let next = audit_so_far c.take_turn.new.self in
-    let schedule = c.args.schedule.now in
-    let i = c.loop-place.place-index in
-    let old = c.loop-place.invariant in
-    let turned = c.in_ok-take_turn.ensures in
-    let split = drop-cons schedule i 0 c.loop-place-test.true
-    ∙ ap (λ n. get_or schedule i 0 ∷ drop n schedule) (sym (add-one i)) in
+    let old = audit_so_far c.loop-place.self in
+    let new = audit_so_far c.take_turn.new.self in
     record {
       audit =
-          turn_more (audit_turns (audit_so_far c.args.self.now) schedule) now next (get_or schedule i 0) (drop i schedule)
-          (drop (i + 1) schedule) split old.audit turned.audit;
-      stands = turned.stands;
-      setup = turn_setup now next (get_or schedule i 0) turned.audit ∙ old.setup;
+          turns_next old new (audit_so_far c.args.self.now) _ _
+          (drop (c.loop-place.place-index + 1) c.args.schedule.now) c.args.schedule.now
+          c.in_ok-take_turn.ensures.audit
+          (turns_left c.args.schedule.now c.loop-place.place-index _ c.loop-place-test.true)
+          c.loop-place.invariant.audit;
+      stands = c.in_ok-take_turn.ensures.stands;
+      setup = setup_next old new _ _ c.in_ok-take_turn.ensures.audit c.loop-place.invariant.setup;
     }
