@@ -31,4 +31,5 @@ pub mod Found
 pub mod TurnCases
 pub mod Taking
 pub mod ExhibitsFit
+pub mod ExhibitsHarm
 pub mod Latest

@@ -1,6 +1,6 @@
 //! What the finding of an audit means, in the words of coherence.
 
-ghost use Rattle.audit.specs.Laws.{SoundnessIsTold, FindingsAreFirst};
+ghost use Rattle.audit.specs.Laws.{ExhibitsDoHarm, SoundnessIsTold, FindingsAreFirst};
 
 /// Where nothing is found, each reply is the latest word, and after each event every line is
 /// coherent.
@@ -11,4 +11,9 @@ pub fn nothing_found_is_sound()
 /// The event that is found does harm, and none before it does.
 pub fn findings_are_first()
     ensures { FindingsAreFirst }
+{}
+
+/// Each exhibit does harm, and what is found in it first is computed.
+pub fn exhibits_do_harm()
+    ensures { ExhibitsDoHarm }
 {}

@@ -24,7 +24,7 @@ pub use audited::Audit;
 pub use auditing::audit;
 pub use exhibits::exhibit;
 pub use finding::{Finding, Harm};
-pub use laws::{findings_are_first, nothing_found_is_sound};
+pub use laws::{exhibits_do_harm, findings_are_first, nothing_found_is_sound};
 pub use no_memory::NoMemory;
 
 #[cfg(test)]
