@@ -304,10 +304,6 @@ flushed_room setup c e t access can each invalid v =
 abbrev full_of : Setup → List Row → List Progress → ℕ → Bool
 full_of setup rows boards board = is_full_now setup rows board (present_access setup boards board)
 
--- What a board may have used.
-abbrev allowed : Setup → Configuration → ℕ → ℕ
-allowed setup c board = cond (full_of setup c.rows c.boards board) 0 4 + stage c.boards c.phase board
-
 module _ (setup : Setup) (events : List Event) (c : Configuration) (well : WellFormed setup)
     (k : Kept setup events c) where
   own_drop :

@@ -29,6 +29,5 @@ pub mod Growing
 pub mod Standing
 pub mod Found
 pub mod TurnCases
-pub mod Taking
 pub mod ExhibitsFit
 pub mod Latest

@@ -154,6 +154,3 @@ any_data-boards c e =
         ap (λ o. is_some o) (row_at-board c.rows (any_rows c e) e.master (any_row-master e (master_words c e) c.rows) e.line)
         ∙ sym (ap (λ o. is_some o)
         (row_at-board c.rows (answering_rows c e) e.master (answering-master e c.rows) e.line))
-
-pub any_data-phase : (c : Configuration) (e : Carried) → (after_any_data c e).phase ≡ Idle
-any_data-phase c e = refl

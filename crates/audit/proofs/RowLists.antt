@@ -80,21 +80,6 @@ place-within row [] = omega arith
 place-within row (other ∷ rest) =
     place-by (place_for row rest) (length rest) (is_before row other) (place-within row rest)
 
-pub place-skip :
-    (row : Row) (rows : List Row) (i : ℕ) (d : Row) → i < length rows → is_before row (get_or rows i d) ≡ false
-    → place_for row (drop i rows) ≡ suc (place_for row (drop (i + 1) rows))
-place-skip row rows i d l h =
-    ap (place_for row) (drop-cons rows i d l)
-    ∙ ap (λ t. if t then 0 else suc (place_for row (drop (suc i) rows))) h
-    ∙ ap (λ n. suc (place_for row (drop n rows))) (sym (add-one i))
-
-pub place-stop :
-    (row : Row) (rows : List Row) (i : ℕ) (d : Row) → i < length rows → is_before row (get_or rows i d) ≡ true
-    → place_for row (drop i rows) ≡ 0
-place-stop row rows i d l h =
-    ap (place_for row) (drop-cons rows i d l)
-    ∙ ap (λ t. if t then 0 else suc (place_for row (drop (suc i) rows))) h
-
 -- ---- rows that are changed, and rows that go
 
 module _ {X : Type 0} where
@@ -160,20 +145,5 @@ keeps-copy board line state words rows h =
     copy-is :
         (row : Row) (b : Bool) → is_copy board line row ≡ b
         → Some (copy_with board line state words row) ≡ copy_as board line state words row
-    copy-is row true e = rw (e, h) refl
-    copy-is row false e = rw e refl
-
--- A row that goes with the state I.
-pub gives-up-copy :
-    (board line : ℕ) (state : State) (words : List ℕ) (rows : List Row) → holds state ≡ false
-    → filter_map (λ (row : Row). if is_copy board line row then None else Some row) rows
-    ≡ filter_map (copy_as board line state words) rows
-gives-up-copy board line state words rows h =
-    same-options (λ row. if is_copy board line row then None else Some row) (copy_as board line state words)
-    (λ row. copy-is row (is_copy board line row) refl) rows
-  where
-    copy-is :
-        (row : Row) (b : Bool) → is_copy board line row ≡ b
-        → (if is_copy board line row then None else Some row) ≡ copy_as board line state words row
     copy-is row true e = rw (e, h) refl
     copy-is row false e = rw e refl

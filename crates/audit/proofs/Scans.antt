@@ -31,10 +31,3 @@ map-more f xs ys i d v l e h =
     )) in
     let read : get_or ys i d ≡ get_or ys i (get_or ys i d) = get_or_default ys i d (get_or ys i d) (omega arith) in
     rw h (map_over_more f xs ys i (get_or ys i d) l e read)
-
--- One more element that passes, or does not, is counted.
-pub count-rest :
-    {X : Type 0} (p : X → Bool) (xs : List X) (i n m : ℕ) (d : X) → i < length xs
-    → m ≡ n + cond (p (get_or xs i d)) 1 0
-    → n + count_where p (drop i xs) ≡ m + count_where p (drop (i + 1) xs)
-count-rest p xs i n m d l e = rw (add-one, drop-cons xs i d l) (omega arith)

@@ -101,12 +101,6 @@ harm_by one alone few latest unowned same =
     else None)))
 
 module _ (rows : List Row) (memory latest : List ℕ) where
-  by_parts :
-      line_harm rows memory latest
-      ≡ harm_by (nat_le (owner_count rows) 1) (has_alone rows) (nat_le (length rows) 1) (all_latest latest rows)
-      (owner_count rows == 0) (same_words memory latest)
-  by_parts = refl
-
   pub two_owners : 1 < owner_count rows → line_harm rows memory latest ≡ Some Owners
   two_owners h =
       ap (λ b.

@@ -14,25 +14,6 @@ use Rattle.audit.specs.Turns.{any_turn, guarded}
 use Rattle.audit.proofs.Legal.{own_connected}
 
 module _ (setup : Setup) (c : Configuration) (board : ℕ) where
-  -- The script is at its end.
-  pub turn-finished :
-      present_access setup c.boards board ≡ None → event_in (any_turn setup c board) ≡ None
-  turn-finished e =
-      ap (λ t. event_in (guarded setup c t))
-      (in_parts (filled setup) c board ∙ ap (turn_for (filled setup) c board) e)
-
-  -- The board's transaction is connected.
-  pub turn-data :
-      (access : Access) (t : Transaction) → present_access setup c.boards board ≡ Some access
-      → own_transaction c.phase board ≡ Some t
-      → event_in (any_turn setup c board) ≡ Some (DataPhase (carried_for c t (Some access)))
-  turn-data access t e own =
-      let same : t.master ≡ board = (own_connected c.phase board t own).1 in
-      ap (λ t. event_in (guarded setup c t))
-      (in_parts (filled setup) c board ∙ ap (turn_for (filled setup) c board) e
-      ∙ ap (access_turn (filled setup) c board access) own)
-      ∙ ap (λ o. Some (DataPhase (carried_for c t o))) (ap (present_access setup c.boards) same ∙ e)
-
   -- The board has an access to do, and no transaction connected.
   pub turn-serve :
       (access : Access) → present_access setup c.boards board ≡ Some access → own_transaction c.phase board ≡ None
