@@ -1,17 +1,14 @@
 -- A turn of any tables by its parts, as the auditor's code plans it.
-use Rattle.std.proofs.Common.{◌≡◌, ℕ, None, Some, Option, ap, refl, ◌∙◌}
+use Rattle.std.proofs.Common.{◌≡◌, ℕ, None, Some, ap, ◌∙◌}
 use Rattle.bus_signals.specs.declared.Access.{Access}
 use Rattle.bus_model.specs.Setup.{Setup}
-use Rattle.bus_model.specs.Events.{DataPhase, Transaction}
 use Rattle.bus_model.specs.Configuration.{Configuration, present_access}
 use Rattle.bus_model.specs.Turns.{decide, own_transaction}
 use Rattle.bus_model.specs.TurnParts.{access_turn, action_turn, turn_for}
 use Rattle.bus_model.proofs.TurnInParts.{in_parts}
-use Rattle.data_phase.specs.Seen.{carried_for}
 use Rattle.audit.specs.Filled.{filled}
 use Rattle.audit.specs.Parts.{event_in}
 use Rattle.audit.specs.Turns.{any_turn, guarded}
-use Rattle.audit.proofs.Legal.{own_connected}
 
 module _ (setup : Setup) (c : Configuration) (board : ℕ) where
   -- The board has an access to do, and no transaction connected.
