@@ -13,6 +13,6 @@ pub record Given (command : Command) (files : Files) (buffer : List ℕ) (status
     : Type 0 where
   pub output : Output
   pub ends : Ends command (Some files) ⊥ output
-  pub count : count ≡ length output.text
+  pub whole : count ≡ length output.text
   pub front : take (length output.text) buffer ≡ take (length buffer) output.text
-  pub status : status ≡ fitting output (length buffer)
+  pub told : status ≡ fitting output (length buffer)

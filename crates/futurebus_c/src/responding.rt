@@ -1,6 +1,6 @@
 //! A command over lent texts, and its text in the caller's buffer.
 
-ghost use Rattle.std.specs.Prelude.{◌≡◌, map, string_bytes};
+ghost use Rattle.std.specs.Prelude.{◌≡◌, IfOk, length, map, nat_le, string_bytes, take};
 ghost use Rattle.fb_cli.specs.Command.{Command, found};
 ghost use Rattle.fb_cli.specs.Rows.{command_in, plain_rows};
 ghost use Rattle.futurebus_c.specs.Texts.{files_of};
