@@ -1,6 +1,6 @@
 //! How far the machine has come: the phase of the bus, and what each board has done.
 
-ghost use Rattle.std.specs.Prelude.{◌≡◌, ◌↔◌, IsNone, option_map};
+ghost use Rattle.std.specs.Prelude.{◌≡◌, ◌&&◌, ◌↔◌, IsNone, option_map};
 ghost use Rattle.moesi_state.specs.declared.State.TheVariants.{I};
 ghost use Rattle.bus_model.specs.Configuration.{Row, progress_of, row_at, state_at};
 ghost use Rattle.backplane.specs.Machine.{configuration, IsBoard};
@@ -20,6 +20,13 @@ fn copied(phase: &Phase) -> Phase
         Phase::Granted(board) => Phase::Granted(*board),
         Phase::Connected(connected) => Phase::Connected(connected.copy()),
     }
+}
+
+/// Whether both of two facts hold.
+fn both(one: bool, other: bool) -> bool
+    ensures { result ≡ (one && other) }
+{
+    one && other
 }
 
 impl Machine {
@@ -67,8 +74,7 @@ impl Machine {
         requires { IsBoard self.now board }
         ensures { result ≡ was_served (configuration self.now).arbitration board }
     {
-        let marked = self.parts.requests.served(board);
-        self.setup.fair() && marked
+        both(self.setup.fair(), self.parts.requests.served(board))
     }
 
     /// The number that a board gave its row of a line when it was filled.
