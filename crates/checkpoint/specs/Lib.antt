@@ -1,2 +1,5 @@
 pub mod StateText
 pub mod Marks
+pub mod Restoring
+pub mod Restore
+pub mod Stages

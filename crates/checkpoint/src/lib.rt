@@ -16,12 +16,21 @@
 //! order of board and then of fill number, and for each line of memory. No call here takes memory.
 #![tactic(auto)]
 
+mod comparing;
 mod drawing;
+mod fault;
 mod item;
+mod kept;
 mod line;
 mod lines;
 mod mark;
+mod reading;
+mod restore;
 mod rows;
+mod stage;
+mod turns;
 mod writing;
 
+pub use fault::RestoreFault;
 pub use lines::StateLines;
+pub use restore::Restore;
