@@ -1,5 +1,5 @@
 -- The lines of a state text that are left at a mark.
-use Rattle.std.specs.Prelude.{◌≡◌, ℕ, zero, suc, ◌<◌, Bool, true, false, ◌&&◌, ◌||◌, ◌==◌, nat_lt, List, [], ◌∷◌, Option, Some, None, drop, filter, option_map, if◌then◌else◌}
+use Rattle.std.specs.Prelude.{◌≡◌, ℕ, zero, suc, ◌<◌, Bool, true, false, ◌&&◌, ◌||◌, ◌==◌, nat_lt, List, [], ◌∷◌, Option, Some, None, drop, filter, length, ◌≤◌, option_map, if◌then◌else◌}
 use Rattle.trace_text.specs.Ranges.{InRange}
 use Rattle.bus_model.specs.Events.{Connect}
 use Rattle.bus_model.specs.Configuration.{Configuration, Row, row_at}
@@ -46,6 +46,7 @@ IsSpelled (Item.Line line) = Unit {0}
 pub record IsFirst (c : Configuration) (lines : List (List ℕ)) (step : Step) : Type 0 where
   pub lines : lines ≡ item_line step.item ∷ lines_left c step.mark
   pub spelled : IsSpelled step.item
+  pub short : length (item_line step.item) ≤ 260
 
 -- The first of some lines, and those after it. Where there is none, it is no byte.
 abbrev pub first_line : List (List ℕ) → List ℕ

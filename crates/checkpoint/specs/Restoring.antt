@@ -73,11 +73,12 @@ gone_on m number (line ∷ lines) =
     else by_event m Err (λ next. gone_on next (number + 1) lines) number (event_in line)
 
 -- The machine of these lines, of which the first tells turns.
-abbrev pub restored_by : Machine → List (List ℕ) → Result Machine RestoreFault
-restored_by m [] = Err (Spelling 1)
-restored_by m (line ∷ lines) = if is_turns line then gone_on m 2 lines else Err (Spelling 1)
+abbrev pub told_turns : Machine → ℕ → List (List ℕ) → Result Machine RestoreFault
+told_turns m number [] = Err (Spelling number)
+told_turns m number (line ∷ lines) =
+    if is_turns line then gone_on m (number + 1) lines else Err (Spelling number)
 
 -- What restoring a machine from a text comes to: the machine after the events of the text, or the
 -- fault of the first line that is at fault. A last line without its line feed is no line.
 abbrev pub restored : Machine → List ℕ → Result Machine RestoreFault
-restored m text = restored_by m (closed_lines text)
+restored m text = told_turns m 1 (closed_lines text)

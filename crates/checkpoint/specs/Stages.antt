@@ -8,8 +8,7 @@ use Rattle.checkpoint.specs.declared.reading.Stage.{Stage}
 use Rattle.checkpoint.specs.declared.mark.Mark.{Mark}
 use Rattle.checkpoint.specs.Marks.{lines_left}
 use Rattle.checkpoint.specs.Restoring.{by_event}
-use Rattle.checkpoint.specs.Restore.{Place, events, longest, over, reading, state, turns}
-use Rattle.replayer.specs.Reader.{LacksFeed}
+use Rattle.checkpoint.specs.Restore.{Place, events, over, reading, state, turns}
 
 -- Where the lines of a configuration are read of which these are left.
 abbrev pub state_place : Machine → ℕ → List (List ℕ) → List ℕ → Place
@@ -37,8 +36,3 @@ IsCountedAt m number (Stage.Refused fault) = Unit {0}
 
 abbrev pub IsCounted : Reading → Type 0
 IsCounted r = IsCountedAt r.machine r.number r.stage
-
--- Bytes of a line that may still be right.
-pub record IsKept (bytes : List ℕ) : Type 0 where
-  pub lacks : LacksFeed bytes
-  pub short : length bytes ≤ longest

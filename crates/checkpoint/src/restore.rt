@@ -4,12 +4,12 @@ ghost use Rattle.std.specs.Prelude.{◌≡◌, ◌↔◌, ◌++◌, ◌∷◌, �
 ghost use Rattle.backplane.specs.Machine.{opened};
 ghost use Rattle.replayer.specs.Reader.{LacksFeed};
 ghost use Rattle.checkpoint.specs.Restoring.{restored};
-ghost use Rattle.checkpoint.specs.Restore.{IsReading, StandsFor, ending, fed};
+ghost use Rattle.checkpoint.specs.Restore.{IsReading, StandsFor, comes_to};
 
 use crate::fault::RestoreFault;
 use crate::kept::Kept;
 use crate::reading::{Reading, Stage};
-use crate::stage::{answer, is_reading, refuse, take_line};
+use crate::stage::{answer, is_reading, refuse_long, take_line};
 use backplane::Machine;
 use replayer::first_line;
 use std::marker::Model;
@@ -23,7 +23,7 @@ pub struct Restore {
 
 impl Model for Restore {
     ghost use Rattle.checkpoint.specs.Restore.{Restoring};
-    ghost use Rattle.checkpoint.specs.Stages.{IsCounted, IsKept, place_of};
+    ghost use Rattle.checkpoint.specs.Stages.{IsCounted, place_of};
 
     ghost Value = { Restoring };
 
@@ -32,7 +32,9 @@ impl Model for Restore {
       place = place_of r.reading r.kept;
     } };
 
-    ghost invariant = { λ r. IsCounted r.reading × IsKept r.kept };
+    ghost use Rattle.replayer.specs.Reader.{LacksFeed};
+
+    ghost invariant = { λ r. IsCounted r.reading × LacksFeed r.kept };
 }
 
 impl Restore {
@@ -73,7 +75,7 @@ impl Restore {
 
     /// The answer where the text ends.
     fn answer(self) -> Result<Machine, RestoreFault>
-        ensures { result ≡ ending self.place }
+        ensures { result ≡ comes_to self.place [] }
     {
         let Restore { reading, kept: _ } = self;
         answer(reading)
@@ -82,7 +84,8 @@ impl Restore {
     /// Reads a piece line by line.
     fn read(&mut self, piece: &[u8])
         ensures setup { self.new.setup ≡ self.old.setup }
-        ensures place { self.new.place ≡ fed self.old.place piece.now }
+        ensures place { (more : List ℕ)
+            → comes_to self.new.place more ≡ comes_to self.old.place (piece.now ++ more) }
     {
         let mut rest = piece;
         while self.is_reading() {
@@ -106,13 +109,13 @@ impl Restore {
         requires reading { IsReading self.old.place }
         requires lacks { LacksFeed bytes.now }
         ensures setup { self.new.setup ≡ self.old.setup }
-        ensures place { (rest : List ℕ)
-            → fed self.new.place rest ≡ fed self.old.place (bytes.now ++ 10 ∷ rest) }
+        ensures place { (more : List ℕ)
+            → comes_to self.new.place more ≡ comes_to self.old.place (bytes.now ++ 10 ∷ more) }
     {
         if self.kept.add(bytes) {
             take_line(&mut self.reading, self.kept.bytes());
         } else {
-            refuse(&mut self.reading);
+            refuse_long(&mut self.reading);
         }
         self.kept.clear();
     }
@@ -122,10 +125,11 @@ impl Restore {
         requires reading { IsReading self.old.place }
         requires lacks { LacksFeed bytes.now }
         ensures setup { self.new.setup ≡ self.old.setup }
-        ensures place { self.new.place ≡ fed self.old.place bytes.now }
+        ensures place { (more : List ℕ)
+            → comes_to self.new.place more ≡ comes_to self.old.place (bytes.now ++ more) }
     {
         if !self.kept.add(bytes) {
-            refuse(&mut self.reading);
+            refuse_long(&mut self.reading);
         }
     }
 }

@@ -1,13 +1,14 @@
 //! What a line does to the reader of a checkpoint.
 
-ghost use Rattle.std.specs.Prelude.{◌≡◌, ◌↔◌, ◌+◌, [], IsTrue};
+ghost use Rattle.std.specs.Prelude.{◌≡◌, ◌↔◌, ◌<◌, ◌+◌, ℕ, List, [], IsTrue, length};
 ghost use Rattle.backplane.specs.Machine.{configuration};
-ghost use Rattle.checkpoint.specs.Restore.{IsReading, after_line, at_event, at_state, ending, refused};
+ghost use Rattle.checkpoint.specs.Restore.{IsReading, after_line, at_event, at_state, comes_to, refused};
 ghost use Rattle.checkpoint.specs.StateText.{state_lines};
 ghost use Rattle.checkpoint.specs.Marks.{has_line, lines_left};
 ghost use Rattle.checkpoint.specs.Stages.{IsCounted, place_of};
 
 use crate::comparing::next_mark;
+use crate::drawing::next_step;
 use crate::fault::RestoreFault;
 use crate::mark::Mark;
 use crate::reading::{Reading, Stage};
@@ -18,7 +19,7 @@ use journal::Event;
 use trace_text::read_event;
 
 /// The line that is read is not as it should be.
-pub fn refuse(reading: &mut Reading)
+fn refuse(reading: &mut Reading)
     requires reads { IsReading (place_of reading.old []) }
     ensures counted { IsCounted reading.new }
     ensures setup { reading.new.machine.setup ≡ reading.old.machine.setup }
@@ -31,6 +32,20 @@ pub fn refuse(reading: &mut Reading)
         Stage::Refused(fault) => fault,
     };
     reading.stage = Stage::Refused(fault);
+}
+
+/// The line that is read has more than 260 bytes.
+pub fn refuse_long(reading: &mut Reading)
+    requires reads { IsReading (place_of reading.old []) }
+    ensures counted { IsCounted reading.new }
+    ensures setup { reading.new.machine.setup ≡ reading.old.machine.setup }
+    ensures place { (front rest : List ℕ) → 260 < length front
+        → comes_to (place_of reading.new []) rest ≡ comes_to (place_of reading.old front) rest }
+{
+    if let Stage::State(mark) = reading.stage {
+        let _step = next_step(&reading.machine, mark); // gives the length of the line to the prover
+    }
+    refuse(reading);
 }
 
 /// The line of the turns.
@@ -159,7 +174,7 @@ pub fn is_reading(reading: &Reading) -> bool
 
 /// The answer where the text ends.
 pub fn answer(reading: Reading) -> Result<Machine, RestoreFault>
-    ensures { result ≡ ending (place_of reading []) }
+    ensures { result ≡ comes_to (place_of reading []) [] }
 {
     let Reading {
         machine,
