@@ -1,2 +1,5 @@
 pub mod Ordered
 pub mod NextRow
+pub mod Coming
+pub mod Counting
+pub mod Drawn
