@@ -31,7 +31,8 @@ struct fb_answer {
 };
 
 /* The verdict on each table of a text of tables or of a setup. */
-void fb_check(const uint8_t *text, size_t text_length, uint8_t *buffer, size_t buffer_length, struct fb_answer *answer);
+void fb_check(const uint8_t *text, size_t text_length, uint8_t *buffer, size_t buffer_length,
+    struct fb_answer *answer);
 
 /* The setup of a text, written again. */
 void fb_show(const uint8_t *setup, size_t setup_length, uint8_t *buffer, size_t buffer_length,
@@ -42,24 +43,24 @@ void fb_narrow(const uint8_t *table, size_t table_length, uint8_t *buffer, size_
     struct fb_answer *answer);
 
 /* The run of a setup by a schedule, and its ending. */
-void fb_run(const uint8_t *setup, size_t setup_length, const uint8_t *schedule, size_t schedule_length, uint8_t *buffer,
-    size_t buffer_length, struct fb_answer *answer);
+void fb_run(const uint8_t *setup, size_t setup_length, const uint8_t *schedule,
+    size_t schedule_length, uint8_t *buffer, size_t buffer_length, struct fb_answer *answer);
 
 /* Whether a trace is that of a complete run of a setup, and its ending. */
-void fb_replay(const uint8_t *setup, size_t setup_length, const uint8_t *trace, size_t trace_length, uint8_t *buffer,
-    size_t buffer_length, struct fb_answer *answer);
-
-/* What each board and memory did on the bus in a run by a schedule. */
-void fb_traffic(const uint8_t *setup, size_t setup_length, const uint8_t *schedule, size_t schedule_length,
+void fb_replay(const uint8_t *setup, size_t setup_length, const uint8_t *trace, size_t trace_length,
     uint8_t *buffer, size_t buffer_length, struct fb_answer *answer);
 
+/* What each board and memory did on the bus in a run by a schedule. */
+void fb_traffic(const uint8_t *setup, size_t setup_length, const uint8_t *schedule,
+    size_t schedule_length, uint8_t *buffer, size_t buffer_length, struct fb_answer *answer);
+
 /* The run of a setup by the schedule of a number, and its ending. */
-void fb_run_seeded(const uint8_t *setup, size_t setup_length, uint64_t seed, uint8_t *buffer, size_t buffer_length,
-    struct fb_answer *answer);
+void fb_run_seeded(const uint8_t *setup, size_t setup_length, uint64_t seed, uint8_t *buffer,
+    size_t buffer_length, struct fb_answer *answer);
 
 /* What each board and memory did on the bus in a run by the schedule of a number. */
-void fb_traffic_seeded(const uint8_t *setup, size_t setup_length, uint64_t seed, uint8_t *buffer, size_t buffer_length,
-    struct fb_answer *answer);
+void fb_traffic_seeded(const uint8_t *setup, size_t setup_length, uint64_t seed, uint8_t *buffer,
+    size_t buffer_length, struct fb_answer *answer);
 
 /* The generated setup of a number. */
 void fb_make(uint64_t seed, uint8_t *buffer, size_t buffer_length, struct fb_answer *answer);
