@@ -157,3 +157,6 @@ pub extern "C" fn fb_tally(alloc: Global, seed: u64, buffer: &mut [u8], answer: 
 {
     *answer = respond(alloc, with_number(alloc, "tally", seed), &[], &[], buffer);
 }
+
+#[cfg(test)]
+mod tests;
