@@ -1,16 +1,16 @@
-"""The library for C, called from Python by ctypes: each function takes texts as bytes, and gives a status and a text."""
+"""The library for C, called from Python: each function takes texts as bytes, and gives a status and a text.
+
+The library is ./libfuturebus.so, or the one that FUTUREBUS_LIBRARY names."""
 
 import ctypes
-import pathlib
-
-LIBRARY = pathlib.Path(__file__).resolve().parents[2] / "crates" / "futurebus_c" / "out" / "libfuturebus.so"
+import os
 
 
 class Answer(ctypes.Structure):
     _fields_ = [("status", ctypes.c_uint64), ("count", ctypes.c_uint64)]
 
 
-library = ctypes.CDLL(str(LIBRARY))
+library = ctypes.CDLL(os.environ.get("FUTUREBUS_LIBRARY", "./libfuturebus.so"))
 
 
 def call(name, *given, room=1 << 16):
