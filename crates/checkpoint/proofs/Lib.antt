@@ -1,2 +1,6 @@
 pub mod Ordered
 pub mod NextRow
+pub mod Coming
+pub mod Counting
+pub mod Drawn
+pub mod Taking

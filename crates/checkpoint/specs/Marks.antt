@@ -43,8 +43,8 @@ IsSpelled (Item.Phase Idle) = Unit {0}
 IsSpelled (Item.Line line) = Unit {0}
 
 -- An item is the first of these lines, and the others are left at its mark.
-pub record IsFirst (c : Configuration) (lines : List (List ℕ)) (step : Step) : Type 0 where
-  pub lines : lines ≡ item_line step.item ∷ lines_left c step.mark
+pub record IsFirst (c : Configuration) (left : List (List ℕ)) (step : Step) : Type 0 where
+  pub lines : left ≡ item_line step.item ∷ lines_left c step.mark
   pub spelled : IsSpelled step.item
   pub short : length (item_line step.item) ≤ 260
 
@@ -87,8 +87,8 @@ oldest_below rows board last (suc n) =
 
 -- A row of this board and line, with this fill number, is the first of those that are left, and the
 -- others are left behind it.
-pub record IsNextRow (rows left : List Row) (passed line fill : ℕ) : Type 0 where
+pub record IsNextRow (rows left : List Row) (passed line number : ℕ) : Type 0 where
   pub row : Row
   pub at : row_at rows (suc passed) line ≡ Some row
-  pub fill : row.fill ≡ fill
-  pub first : left ≡ row ∷ filter (is_left passed (Some fill)) rows
+  pub fill : row.fill ≡ number
+  pub first : left ≡ row ∷ filter (is_left passed (Some number)) rows

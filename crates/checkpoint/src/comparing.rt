@@ -3,7 +3,7 @@
 ghost use Rattle.std.specs.Prelude.{◌≡◌, ◌≢◌, ◌↔◌, ◌++◌, ◌∷◌, [], true, IsTrue, IfSome, IfNone};
 ghost use Rattle.trace_text.specs.Ranges.{InRange};
 ghost use Rattle.bus_model.specs.Events.{Connect};
-ghost use Rattle.bus_model.specs.Configuration.{Connected};
+ghost use Rattle.bus_model.specs.Configuration.{Connected as Connection};
 ghost use Rattle.backplane.specs.Machine.{configuration};
 ghost use Rattle.checkpoint.specs.StateText.{phase_line};
 ghost use Rattle.checkpoint.specs.Marks.{IsSpelled, first_line, has_line, item_line, later_lines, lines_left};
@@ -17,8 +17,8 @@ use crate::turns::behind;
 use crate::writing::{granted_line, idle_line};
 use backplane::{Machine, Phase};
 use bus_signals::BoardNo;
-use journal::{Answer, Connected, Event};
 use class_words::is;
+use journal::{Answer, Connected, Event};
 use trace_text::read_event;
 
 /// Whether bytes and a line feed are this line.
@@ -54,7 +54,7 @@ fn is_same(a: &Connected, b: &Connected) -> bool
 /// Whether bytes are those of the event that connected a transaction.
 fn tells(connected: &Connected, bytes: &[u8]) -> bool
     requires { InRange (Connect connected.now) }
-    ensures { IsTrue result ↔ (bytes.now ++ 10 ∷ [] ≡ phase_line (Connected connected.now)) }
+    ensures { IsTrue result ↔ (bytes.now ++ 10 ∷ [] ≡ phase_line (Connection connected.now)) }
 {
     let Some(rest) = behind(bytes, "phase ") else {
         return false;

@@ -62,11 +62,12 @@ fn row_item(machine: &Machine, board: BoardNo, number: u32, fill: u64) -> Line
         → result.bytes ≡ row_line row }
 {
     let mut line = Line::new();
-    if let Some((state, words)) = machine.copy(board, LineNo(number)) {
+    if let Some(copy) = machine.copy(board, LineNo(number)) {
+        let words = copy.1;
         line.push(b"row");
         line.number(u64::from(board.0));
         line.number(u64::from(number));
-        line.word(state_text(state));
+        line.word(state_text(copy.0));
         line.number(fill);
         line.four_words(words);
         line.push(b"\n");
@@ -123,12 +124,7 @@ fn next_of_rows(machine: &Machine, passed: u8, last: Option<u64>) -> Step
 {
     match next_row(machine, passed, last) {
         Some((before, filled)) => Step {
-            item: Item::Line(row_item(
-                machine,
-                BoardNo(before + 1),
-                filled.line,
-                filled.fill,
-            )),
+            item: Item::Line(row_item(machine, BoardNo(before + 1), filled.line, filled.fill)),
             mark: Mark::Row {
                 passed: before,
                 last: Some(filled.fill),

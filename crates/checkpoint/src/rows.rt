@@ -30,12 +30,7 @@ fn lesser(best: Option<Filled>, one: Filled) -> Filled
 }
 
 /// The best so far, or a row of this line, if there is one that was filled after a number.
-fn better(
-    last: Option<u64>,
-    best: Option<Filled>,
-    line: u32,
-    fill: Option<u64>,
-) -> Option<Filled>
+fn better(last: Option<u64>, best: Option<Filled>, line: u32, fill: Option<u64>) -> Option<Filled>
     ensures { result ≡ better last best line fill }
 {
     match fill {

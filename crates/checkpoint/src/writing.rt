@@ -3,7 +3,7 @@
 ghost use Rattle.std.specs.Prelude.{◌≡◌, ◌≤◌, ◌+◌, ◌++◌, length};
 ghost use Rattle.fb_text.specs.Written.{Appends};
 ghost use Rattle.trace_text.specs.Ranges.{InRange};
-ghost use Rattle.bus_model.specs.Configuration.{Connected, Granted, Idle};
+ghost use Rattle.bus_model.specs.Configuration.{Connected as Connection, Granted, Idle};
 ghost use Rattle.bus_model.specs.Events.{Connect};
 ghost use Rattle.checkpoint.specs.StateText.{phase_line};
 ghost use Rattle.checkpoint.specs.Marks.{IsSpelled, item_line};
@@ -48,7 +48,7 @@ fn write_line(line: &Line, text: &mut Text)
 fn write_connected(connected: &Connected, text: &mut Text)
     requires spelled { InRange (Connect connected.now) }
     requires room { 260 ≤ text.old.spare }
-    ensures appends { Appends text.old text.new (phase_line (Connected connected.now)) 260 }
+    ensures appends { Appends text.old text.new (phase_line (Connection connected.now)) 260 }
 {
     text.push(b"phase ");
     write_event(&Event::Connect(connected.copy()), text);

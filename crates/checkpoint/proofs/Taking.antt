@@ -1,0 +1,95 @@
+-- What a line does to the reader of a checkpoint.
+use Rattle.std.proofs.Common.{◌≡◌, ◌≢◌, ℕ, suc, ◌+◌, ◌^◌, ◌<◌, ◌≤◌, Bool, true, false, cond, List, [], ◌∷◌, ◌++◌, Option, Some, None, Ok, Err, length, refl, sym, ap, ◌∙◌, subst, arith, length-append}
+use Rattle.std.specs.Str.{bytes_eq}
+use Rattle.std.proofs.lemmas.Bool.{false_from_ne_true}
+use Rattle.std.proofs.lemmas.Slice.Eq.{bytes_eq-Decides}
+use Rattle.trace_text.proofs.Binds.{is_word}
+use Rattle.bus_model.specs.Events.{Event}
+use Rattle.backplane.specs.Machine.{Machine, MayHappen, configuration, happened}
+use Rattle.replayer.specs.Replaying.{step}
+use Rattle.replayer.proofs.Stepping.{step_may, step_not}
+use Rattle.checkpoint.specs.declared.fault.RestoreFault.TheVariants.{Spelling, NotARun, Differs}
+use Rattle.checkpoint.specs.declared.item.Step.{Step}
+use Rattle.checkpoint.specs.declared.mark.Mark.{Mark}
+use Rattle.checkpoint.specs.Marks.{IsFirst, first_line, has_line, item_line, lines_left}
+use Rattle.checkpoint.specs.Restoring.{by_step, is_line}
+use Rattle.checkpoint.specs.Restore.{IsReading, Place, after_line, at_event, at_state, comes_to, events, lines_come_to, over, reading, refused, state, turns}
+use Rattle.checkpoint.specs.Stages.{state_place}
+use Rattle.checkpoint.proofs.Coming.{long_comes}
+
+-- A line of a configuration that is not as it should be.
+pub refused_state :
+    (m : Machine) (number : ℕ) (left : List (List ℕ)) → IsReading (state_place m number left [])
+    → over (Err (Differs number)) ≡ refused (state_place m number left [])
+refused_state m number [] reads = absurd reads
+refused_state m number (w ∷ more) reads = refl
+
+own_line : (line : List ℕ) → is_line (line ++ 10 ∷ []) line ≡ true
+own_line line = (bytes_eq-Decides (line ++ 10 ∷ []) (line ++ 10 ∷ [])).1 refl
+
+at_is : (m : Machine) (number : ℕ) (more : List (List ℕ)) → state_place m number more [] ≡ at_state m number more
+at_is m number [] = refl
+at_is m number (w ∷ more) = refl
+
+-- A line of a configuration that is as it should be.
+pub state_taken :
+    (m : Machine) (number : ℕ) (left more : List (List ℕ)) (line : List ℕ) → left ≡ (line ++ 10 ∷ []) ∷ more
+    → state_place m (number + 1) more [] ≡ after_line (state_place m number left []) line
+state_taken m number left more line is =
+    at_is m (number + 1) more
+    ∙ ap (λ (b : Bool). cond b (at_state m (number + 1) more) (over (Err (Differs number)))) (sym (own_line line))
+    ∙ ap (λ (ls : List (List ℕ)). after_line (state_place m number ls []) line) (sym is)
+
+pub state_refused :
+    (m : Machine) (number : ℕ) (left : List (List ℕ)) (line : List ℕ) → IsReading (state_place m number left [])
+    → (has_line left ≡ true → line ++ 10 ∷ [] ≢ first_line left)
+    → refused (state_place m number left []) ≡ after_line (state_place m number left []) line
+state_refused m number [] line reads other = absurd reads
+state_refused m number (w ∷ more) line reads other =
+    ap (λ (b : Bool). cond b (at_state m (number + 1) more) (over (Err (Differs number))))
+    (sym (false_from_ne_true (is_line w line) (λ e. other refl (is_word (line ++ 10 ∷ []) w e))))
+
+-- One line fewer is left.
+pub state_counted :
+    (number : ℕ) (left more : List (List ℕ)) (line : List ℕ) → left ≡ line ∷ more → number + length left ≤ 2 ^ 40
+    → number + 1 + length more ≤ 2 ^ 40
+state_counted number left more line is h =
+    let l = ap (λ (ls : List (List ℕ)). length ls) is in omega (arith, l, h)
+
+-- The event of a line that is a step, and of one that is none.
+pub event_taken :
+    (old new : Machine) (number : ℕ) (event : Event) → MayHappen old event → new ≡ happened old event
+    → reading new (number + 1) events [] ≡ at_event old number event
+event_taken old new number event may is =
+    ap (λ (m : Machine). reading m (number + 1) events []) is
+    ∙ ap (λ (o : Option Machine).
+    by_step (λ fault. over (Err fault)) (λ next. reading next (number + 1) events []) number o)
+    (sym (step_may old event may))
+
+pub event_counted :
+    (old new : Machine) (number : ℕ) (event : Event) → new ≡ happened old event → number ≡ length old.journal + 2
+    → number + 1 ≡ length new.journal + 2
+event_counted old new number event is h =
+    let l = ap (λ (m : Machine). length m.journal) is in
+    let k = length-append old.journal (event ∷ []) in omega (arith, h, l, k)
+
+pub event_refused :
+    (old : Machine) (number : ℕ) (event : Event) → (MayHappen old event → ⊥)
+    → over (Err (NotARun number)) ≡ at_event old number event
+event_refused old number event not =
+    ap (λ (o : Option Machine).
+    by_step (λ fault. over (Err fault)) (λ next. reading next (number + 1) events []) number o)
+    (sym (step_not old event not))
+
+-- A line of a configuration that is too long.
+pub long_state :
+    (m : Machine) (number : ℕ) (mark : Mark) (step : Step) (front rest : List ℕ)
+    → IsFirst (configuration m) (lines_left (configuration m) mark) step → 260 < length front
+    → comes_to (refused (state_place m number (lines_left (configuration m) mark) [])) rest
+    ≡ comes_to (state_place m number (lines_left (configuration m) mark) front) rest
+long_state m number mark step front rest first long =
+    subst (λ (ls : List (List ℕ)).
+    comes_to (refused (state_place m number ls [])) rest ≡ comes_to (state_place m number ls front) rest)
+    (sym first.lines)
+    (sym (long_comes m number (state (item_line step.item) (lines_left (configuration m) step.mark)) front rest
+    first.short long))
