@@ -1,9 +1,13 @@
--- Which command the words of a call ask for.
-use Rattle.std.proofs.Common.{◌≡◌, ℕ, ◌<◌, ◌^◌, List, [], ◌∷◌, Some, Ok, ap, refl, ◌∙◌}
-use Rattle.std.specs.Prelude.{codes, decimal, Option, option_map, if◌then◌else◌}
-use Rattle.std.specs.Result.{result_ok}
-use Rattle.setup_text.proofs.Texts.{number_within_again}
-use Rattle.fb_cli.specs.Command.{found}
+-- From the words of a call to the output that is given.
+use Rattle.std.proofs.Common.{◌≡◌, inl, inr, ℕ, ◌<◌, ◌^◌, List, [], ◌∷◌, Option, Some, None, Ok, Err, ap, refl, sym, subst, ◌∙◌, arith}
+use Rattle.std.proofs.lemmas.Bool.{le-leb}
+use Rattle.std.specs.Prelude.{codes, decimal, IfOk, Result}
+use Rattle.fb_text.specs.Number.{number_of}
+use Rattle.fb_text.specs.Unread.{number_within}
+use Rattle.fb_text.proofs.Decimal.{number_again}
+use Rattle.fb_cli.specs.Command.{Command, Does, Ends, EndsAs, File, Found, IsUnread, none, found}
+use Rattle.fb_cli.specs.Output.{Files, Output, Role}
+use Rattle.futurebus_c.specs.Given.{Answers}
 use Rattle.fb_cli.specs.Rows.{command_in, plain_rows, seed_of}
 use Rattle.fb_cli.specs.Check.{check}
 use Rattle.fb_cli.specs.Fileless.{make, tally}
@@ -13,58 +17,67 @@ use Rattle.fb_cli.specs.Run.{run, run_seeded}
 use Rattle.fb_cli.specs.Show.{show}
 use Rattle.fb_cli.specs.Traffic.{traffic, traffic_seeded}
 
-pub check_asked :
-    (words : List (List ℕ)) → words ≡ codes "check" ∷ codes "first" ∷ []
-    → command_in plain_rows words ≡ found (check (codes "first"))
-check_asked words is = ap (command_in plain_rows) is
-
-pub show_asked :
-    (words : List (List ℕ)) → words ≡ codes "show" ∷ codes "first" ∷ []
-    → command_in plain_rows words ≡ found (show (codes "first"))
-show_asked words is = ap (command_in plain_rows) is
-
-pub narrow_asked :
-    (words : List (List ℕ)) → words ≡ codes "narrow" ∷ codes "first" ∷ []
-    → command_in plain_rows words ≡ found (narrow (codes "first"))
-narrow_asked words is = ap (command_in plain_rows) is
-
-pub run_asked :
-    (words : List (List ℕ)) → words ≡ codes "run" ∷ codes "first" ∷ codes "second" ∷ []
-    → command_in plain_rows words ≡ found (run (codes "first") (codes "second"))
-run_asked words is = ap (command_in plain_rows) is
-
-pub replay_asked :
-    (words : List (List ℕ)) → words ≡ codes "replay" ∷ codes "first" ∷ codes "second" ∷ []
-    → command_in plain_rows words ≡ found (replay (codes "first") (codes "second"))
-replay_asked words is = ap (command_in plain_rows) is
-
-pub traffic_asked :
-    (words : List (List ℕ)) → words ≡ codes "traffic" ∷ codes "first" ∷ codes "second" ∷ []
-    → command_in plain_rows words ≡ found (traffic (codes "first") (codes "second"))
-traffic_asked words is = ap (command_in plain_rows) is
 
 -- The digits of a number of 64 bits are read as the number.
 seed_again : (n : ℕ) → n < 2 ^ 64 → seed_of (decimal n) ≡ Some n
-seed_again n small = ap result_ok (number_within_again 18446744073709551615 n (omega arith) (omega arith))
+seed_again n small =
+    rw (number_again n small, le-leb n 18446744073709551615 (omega arith)) refl
+
+-- What words give that ask for a command is an output of the command.
+pub given_by :
+    {W E : Type 0} (spelled : W → List (List ℕ)) (words : Result W E) (line : List (List ℕ)) (command : Command)
+    (files : Files) (output : Output)
+    → command_in plain_rows line ≡ found command → IfOk words (λ w. spelled w ≡ line)
+    → Answers spelled words files output → Ends command (Some files) ⊥ output
+given_by spelled (Ok w) line command files output asks is answers =
+    subst (λ (asked : Found). EndsAs asked (Some files) ⊥ output) (ap (command_in plain_rows) is ∙ asks) answers
+given_by spelled (Err e) line command files output asks is answers = inr (inr answers)
 
 pub make_asked :
-    (n : ℕ) → n < 2 ^ 64 → (words : List (List ℕ)) → words ≡ codes "make" ∷ decimal n ∷ []
-    → command_in plain_rows words ≡ found (make n)
-make_asked n small words is = rw (is, seed_again n small) refl
+    (n : ℕ) → n < 2 ^ 64 → command_in plain_rows (codes "make" ∷ decimal n ∷ []) ≡ found (make n)
+make_asked n small = rw (seed_again n small) refl
 
 pub tally_asked :
-    (n : ℕ) → n < 2 ^ 64 → (words : List (List ℕ)) → words ≡ codes "tally" ∷ decimal n ∷ []
-    → command_in plain_rows words ≡ found (tally n)
-tally_asked n small words is = rw (is, seed_again n small) refl
+    (n : ℕ) → n < 2 ^ 64 → command_in plain_rows (codes "tally" ∷ decimal n ∷ []) ≡ found (tally n)
+tally_asked n small = rw (seed_again n small) refl
 
 pub run_seeded_asked :
-    (n : ℕ) → n < 2 ^ 64 → (words : List (List ℕ))
-    → words ≡ codes "run" ∷ codes "first" ∷ codes "seed" ∷ decimal n ∷ []
-    → command_in plain_rows words ≡ found (run_seeded (codes "first") n)
-run_seeded_asked n small words is = rw (is, seed_again n small) refl
+    (n : ℕ) → n < 2 ^ 64
+    → command_in plain_rows (codes "run" ∷ codes "first" ∷ codes "seed" ∷ decimal n ∷ [])
+    ≡ found (run_seeded (codes "first") n)
+run_seeded_asked n small = rw (seed_again n small) refl
 
 pub traffic_seeded_asked :
-    (n : ℕ) → n < 2 ^ 64 → (words : List (List ℕ))
-    → words ≡ codes "traffic" ∷ codes "first" ∷ codes "seed" ∷ decimal n ∷ []
-    → command_in plain_rows words ≡ found (traffic_seeded (codes "first") n)
-traffic_seeded_asked n small words is = rw (is, seed_again n small) refl
+    (n : ℕ) → n < 2 ^ 64
+    → command_in plain_rows (codes "traffic" ∷ codes "first" ∷ codes "seed" ∷ decimal n ∷ [])
+    ≡ found (traffic_seeded (codes "first") n)
+traffic_seeded_asked n small = rw (seed_again n small) refl
+
+-- ---- what `plain` wrote over texts that never fail
+
+-- A file is read where the shelf does not fail.
+no_unread :
+    (opens : List File) (files : Option Files) (A : Type 0) (role : Role) → (A → ⊥)
+    → IsUnread opens files A role → ⊥
+no_unread [] files A role sure u = u
+no_unread (file ∷ more) files A role sure (inl u) = sure u.1.1
+no_unread (file ∷ more) files A role sure (inr u) = no_unread more files A role sure u
+
+ends_surely :
+    (asked : Found) (files : Option Files) (A : Type 0) (o : Output) → (A → ⊥) → EndsAs asked files A o
+    → EndsAs asked files ⊥ o
+ends_surely (none Tells) files A o sure ends = ends
+ends_surely (found command) files A o sure (inl answer) = inl answer
+ends_surely (found command) files A o sure (inr (inl unread)) =
+    absurd (no_unread command.opens files A unread.0 sure unread.1.0)
+ends_surely (found command) files A o sure (inr (inr same)) = inr (inr same)
+
+-- A whole text was taken, unless the status is 5.
+pub written :
+    (asked : Found) (files : Files) (A B : Type 0) (text : List ℕ) (status : ℕ) → (A → ⊥) → (status ≡ 5 → ⊥)
+    → Does asked (Some files) A B (Some []) (Some text) status
+    → EndsAs asked (Some files) ⊥ (record { status = status; text = text })
+written asked files A B text status sure kept (o , ends , inl whole) =
+    subst (λ (p : Output). EndsAs asked (Some files) ⊥ p)
+    (λ i. record { status = sym whole.0 i; text = sym whole.1 i }) (ends_surely asked (Some files) A o sure ends)
+written asked files A B text status sure kept (o , ends , inr cut) = absurd (kept cut.0)
