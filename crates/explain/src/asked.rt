@@ -34,10 +34,12 @@ fn say_no_table(text: &mut Text, word: &str) -> Result<(), NoMemory> {
 /// of them.
 fn say_last(text: &mut Text, command: Command, words: &[String]) -> Result<(), NoMemory> {
     match (command, words) {
-        (Command::Make | Command::Tally, [number]) => say_number(text, number.as_str().as_bytes()),
+        (Command::Make | Command::Tally | Command::Exhibit, [number]) => {
+            say_number(text, number.as_str().as_bytes())
+        }
         (Command::Help, [name]) => say_no_command(text, name.as_str()),
         (Command::Library, [name]) => say_no_table(text, name.as_str()),
-        (Command::Run | Command::Traffic, [_, seed, number]) => {
+        (Command::Run | Command::Traffic | Command::Audit, [_, seed, number]) => {
             if seed.as_str() == "seed" {
                 return say_number(text, number.as_str().as_bytes());
             }

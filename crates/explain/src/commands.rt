@@ -13,15 +13,17 @@ pub enum Command {
     Library,
     Narrow,
     Traffic,
+    Audit,
+    Exhibit,
     Explain,
     Help,
     Version,
 }
 
 /// The names of the commands, in the order in which they are listed.
-pub const NAMES: [&str; 13] = [
+pub const NAMES: [&str; 15] = [
     "check", "show", "run", "race", "replay", "make", "tally", "library", "narrow", "traffic",
-    "explain", "help", "version",
+    "audit", "exhibit", "explain", "help", "version",
 ];
 
 impl Command {
@@ -38,6 +40,8 @@ impl Command {
             "library" => Some(Command::Library),
             "narrow" => Some(Command::Narrow),
             "traffic" => Some(Command::Traffic),
+            "audit" => Some(Command::Audit),
+            "exhibit" => Some(Command::Exhibit),
             "explain" => Some(Command::Explain),
             "help" | "-h" | "--help" => Some(Command::Help),
             "version" | "--version" => Some(Command::Version),
@@ -58,6 +62,8 @@ impl Command {
             Command::Library => "library NAME",
             Command::Narrow => "narrow TABLE",
             Command::Traffic => "traffic SETUP SCHEDULE, or SETUP seed NUMBER",
+            Command::Audit => "audit SETUP SCHEDULE, or SETUP seed NUMBER",
+            Command::Exhibit => "exhibit NUMBER, from 1 to 12",
             Command::Explain => "explain WORDS, those of another command",
             Command::Help => "help [COMMAND]",
             Command::Version => "version",
@@ -73,8 +79,9 @@ impl Command {
             | Command::Make
             | Command::Tally
             | Command::Library
-            | Command::Narrow => (1, 1),
-            Command::Run | Command::Traffic => (2, 3),
+            | Command::Narrow
+            | Command::Exhibit => (1, 1),
+            Command::Run | Command::Traffic | Command::Audit => (2, 3),
             Command::Replay => (2, 2),
             Command::Explain => (1, 4),
             Command::Help => (0, 1),

@@ -9,7 +9,7 @@ use Rattle.fb_text.specs.Unread.{Unread as Text}
 use Rattle.setup_text.specs.Reading.{Fault}
 use Rattle.bus_model.specs.Setup.{Setup}
 use Rattle.fb_cli.specs.declared.answers.Answer.{Answer}
-use Rattle.fb_cli.specs.declared.answers.Answer.TheVariants.{Said, Ran, Replayed}
+use Rattle.fb_cli.specs.declared.answers.Answer.TheVariants.{Said, Ran, Replayed, Audited}
 use Rattle.fb_cli.specs.declared.answers.Outcome.{Outcome}
 use Rattle.fb_cli.specs.declared.answers.Outcome.TheVariants as outcomes
 use Rattle.fb_cli.specs.declared.answers.Refusal.TheVariants.{NoRow, Unread, NoMemory}
@@ -19,6 +19,7 @@ use Rattle.fb_cli.specs.declared.role.Role.{Role}
 use Rattle.fb_cli.specs.Output.{Output, Files, on_read, status_of, with_file, within}
 use Rattle.fb_cli.specs.Command.{AreSetup, Command, File, Follows, IsUnread, alone, file_on, known, on_files, printing, setup_file}
 use Rattle.fb_cli.specs.Replies.{Comes, Gives, Stops, StopsAt, answer_output}
+use Rattle.fb_cli.specs.Replies as replies
 use Rattle.setup_text.specs.Writing.{written_setup}
 use Rattle.fb_cli.specs.Headline.{IsTextOfRun}
 use Rattle.fb_cli.specs.Show.{show}
@@ -110,6 +111,7 @@ pub outcome_of : (a : Answer) → (outcome : Outcome) × ((answer_output a).stat
 outcome_of (Said outcome text) = (outcome, refl)
 outcome_of (Ran machine room) = (outcomes.Done, refl)
 outcome_of (Replayed machine room) = (outcomes.Done, refl)
+outcome_of (Audited told) = (replies.outcome_of told.audit.finding, refl)
 
 -- What a command that tells its refusals alone comes to where it stops.
 pub stops_come :

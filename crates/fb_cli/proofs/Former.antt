@@ -88,6 +88,8 @@ is_outcome outcomes.TooLong =
     record { most = inl (omega arith); not_2 = λ two. omega (arith, two); not_4_to_6 = λ high. omega (arith, high) }
 is_outcome outcomes.NothingLeft =
     record { most = inr refl; not_2 = λ two. omega (arith, two); not_4_to_6 = λ high. omega (arith, high) }
+is_outcome outcomes.Harmful =
+    record { most = inr refl; not_2 = λ two. omega (arith, two); not_4_to_6 = λ high. omega (arith, high) }
 
 -- The status of a command, or want of memory, unless a count rose.
 abbrev Exact : Command → Option Files → Type 0 → Type 0 → ℕ → Type 0

@@ -1,19 +1,36 @@
 -- What the steps of a command come to: what was read, or the reply with which the command stops.
-use Rattle.std.specs.Prelude.{◌≡◌, ℕ, List, Option, Some, None, IfSome, Result, Ok, Err}
+use Rattle.std.specs.Prelude.{◌≡◌, ℕ, List, ◌++◌, Option, Some, None, IfSome, Result, Ok, Err}
 use Rattle.backplane.specs.Machine.{configuration}
 use Rattle.setup_text.specs.declared.fault.SetupFault.{SetupFault}
 use Rattle.fb_cli.specs.declared.answers.Answer.{Answer}
 use Rattle.fb_cli.specs.declared.answers.Reply.{Reply}
-use Rattle.fb_cli.specs.Command.{Output, Files, Role, Refusal, refusal_output, status_of, fault_output, Command, Found, none, found, Ends, EndsAs, IsUnread, known}
+use Rattle.fb_cli.specs.Told.{Told}
+use Rattle.audit.specs.declared.finding.Finding.{Finding}
+use Rattle.run_text.specs.RunText.{events_text}
+use Rattle.fb_cli.specs.Command.{Output, Outcome, Files, Role, Refusal, refusal_output, status_of, fault_output, Command, Found, none, found, Ends, EndsAs, IsUnread, known}
 use Rattle.fb_cli.specs.Replay.{run_text, ending}
 
--- The output of an answer: what it says, the run of its machine, or the ending of that run.
+-- The outcome of an audit with this finding.
+abbrev pub outcome_of : Option Finding → Outcome
+outcome_of None = Outcome.Done
+outcome_of (Some finding) = Outcome.Harmful
+
+-- The output of an audit: the lines of its events, and what is printed after them.
+abbrev pub told_output : Told → Output
+told_output told = record {
+  status = status_of (outcome_of told.audit.finding);
+  text = events_text told.audit.journal ++ told.last.bytes;
+}
+
+-- The output of an answer: what it says, the run of its machine, the ending of that run, or an
+-- audit.
 abbrev pub answer_output : Answer → Output
 answer_output (Answer.Said outcome text) = record { status = status_of outcome; text = text.bytes }
 answer_output (Answer.Ran machine room) =
     record { status = 0; text = run_text machine.setup machine.journal (configuration machine) }
 answer_output (Answer.Replayed machine room) =
     record { status = 0; text = ending machine.setup machine.journal (configuration machine) }
+answer_output (Answer.Audited told) = told_output told
 
 -- What is printed of a reply.
 abbrev pub reply_output : Reply → Output

@@ -1,5 +1,5 @@
 -- The commands, and the words that ask for each of them.
-use Rattle.std.specs.Prelude.{ℕ, List, [], ◌∷◌, Option, None, Some, codes, if◌then◌else◌}
+use Rattle.std.specs.Prelude.{ℕ, zero, suc, List, [], ◌∷◌, Option, None, Some, codes, if◌then◌else◌}
 use Rattle.std.specs.Option.{option_and_then, option_map}
 use Rattle.std.specs.Str.{bytes_eq}
 use Rattle.std.specs.Result.{result_ok}
@@ -16,11 +16,20 @@ use Rattle.fb_cli.specs.Replay.{replay}
 use Rattle.fb_cli.specs.Fileless.{library, make, tally}
 use Rattle.fb_cli.specs.Narrow.{narrow}
 use Rattle.fb_cli.specs.Traffic.{traffic, traffic_seeded}
+use Rattle.fb_cli.specs.Audit.{audit, audit_seeded, exhibit}
 use Rattle.fb_cli.specs.Explain.{explained}
 
 -- The number of 64 bits that a word spells.
 abbrev pub seed_of : List ℕ → Option ℕ
 seed_of word = result_ok (number_within 18446744073709551615 (number_of word))
+
+-- The number of an exhibit that a word spells.
+abbrev pub exhibit_named : List ℕ → Option ℕ
+exhibit_named word = option_and_then above_0 (result_ok (number_within 12 (number_of word)))
+  where
+    above_0 : ℕ → Option ℕ
+    above_0 zero = None
+    above_0 (suc n) = Some (suc n)
 
 -- The words after a first word, where it is this name, and what is read of them.
 abbrev pub words_after : List ℕ → List (List ℕ) → Option (List (List ℕ))
@@ -83,9 +92,17 @@ fileless_rows =
     row (after (codes "make") (one seed_of)) make
     ∷ row (after (codes "tally") (one seed_of)) tally
     ∷ row (after (codes "library") (one kind_named)) library
+    ∷ row (after (codes "exhibit") (one exhibit_named)) exhibit
     ∷ row (one (text_in texts)) printing
     ∷ row (after (codes "help") (one page_of)) printing
     ∷ []
+
+-- The rows of the commands that audit a setup, and of those that open no file.
+abbrev pub audit_rows : List Row
+audit_rows =
+    row (after (codes "audit") two) (λ names. audit names.0 names.1)
+    ∷ row (after (codes "audit") one_and_seed) (λ named. audit_seeded named.0 named.1)
+    ∷ fileless_rows
 
 -- The rows of the commands that study a table or a run, and of those that open no file.
 abbrev pub study_rows : List Row
@@ -93,7 +110,7 @@ study_rows =
     row (after (codes "narrow") (one Some)) narrow
     ∷ row (after (codes "traffic") two) (λ names. traffic names.0 names.1)
     ∷ row (after (codes "traffic") one_and_seed) (λ named. traffic_seeded named.0 named.1)
-    ∷ fileless_rows
+    ∷ audit_rows
 
 -- The rows of the commands that take no threads and no other command's words.
 abbrev pub quiet_rows : List Row

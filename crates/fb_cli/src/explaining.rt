@@ -5,19 +5,23 @@ ghost use Rattle.fb_edge.specs.Outside.{Rose};
 ghost use Rattle.explain.specs.Extends.{Extends};
 ghost use Rattle.fb_cli.specs.Output.{refusal_output};
 ghost use Rattle.fb_cli.specs.Explain.{explained};
-ghost use Rattle.fb_cli.specs.Rows.{command_in, explained_rows, fileless_rows, study_rows};
+ghost use Rattle.fb_cli.specs.Rows.{audit_rows, command_in, explained_rows, fileless_rows, study_rows};
 ghost use Rattle.fb_cli.specs.Replies.{ComesTo, IsReady, answer_output, let_go};
 
 use crate::answers::{Answer, Outcome, Refusal, Reply, refusal_line};
 use crate::checking::is_book;
+use crate::harm::explain_harm;
 use crate::helping::say;
 use crate::opening::limit_of;
 use crate::role::Role;
 use crate::rows::{
-    file_after, file_and_seed_after, files_after, kind_after, page_after, seed_after, text_alone,
+    exhibit_after, file_after, file_and_seed_after, files_after, kind_after, page_after,
+    seed_after, text_alone,
 };
 use crate::seen::Seen;
-use crate::{checking, narrowing, replaying, running, showing};
+use crate::told::Told;
+use crate::{auditing, checking, exhibiting, narrowing, replaying, running, showing};
+use audit::Finding;
 use explain::{
     explain_alone, explain_length, explain_schedule, explain_setup, explain_tables, explain_trace,
     explain_unread, explain_words,
@@ -31,8 +35,9 @@ use std::alloc::Global;
 #[cfg(test)]
 mod tests;
 
-/// Whether words ask for a command that opens no file: nothing stands against it.
-fn is_fileless(words: &[String]) -> Result<(), Reply>
+/// What stands before a command that opens no file is done: an exhibit is audited, and nothing stands
+/// against the others.
+fn ready_alone(alloc: Global, words: &[String], seen: &mut Seen) -> Result<(), Reply>
     ensures { IsReady (command_in fileless_rows (map string_bytes words.now)) None ⊥ result }
 {
     if let Some(_) = seed_after("make", words) {
@@ -44,6 +49,9 @@ fn is_fileless(words: &[String]) -> Result<(), Reply>
     if let Some(_) = kind_after("library", words) {
         return Ok(());
     }
+    if let Some(number) = exhibit_after("exhibit", words) {
+        return done(exhibiting::ready(alloc, number, seen));
+    }
     if let Some(_) = text_alone(words) {
         return Ok(());
     }
@@ -51,6 +59,25 @@ fn is_fileless(words: &[String]) -> Result<(), Reply>
         return Ok(());
     }
     Err(Reply::Refused(Refusal::NoRow))
+}
+
+/// What stands before a setup is audited is done, or before a command that opens no file.
+fn ready_to_audit<F: Shelf>(
+    alloc: Global,
+    words: &[String],
+    shelf: &mut F,
+    seen: &mut Seen,
+) -> Result<(), Reply>
+    ensures { IsReady (command_in audit_rows (map string_bytes words.now)) (F.file shelf.old)
+        (Rose (F.faults shelf.old) (F.faults shelf.new)) result }
+{
+    if let Some((setup, schedule)) = files_after("audit", words) {
+        return done(auditing::ready(alloc, setup, schedule, shelf, seen));
+    }
+    if let Some((setup, seed)) = file_and_seed_after("audit", words) {
+        return done(auditing::ready_seeded(alloc, setup, seed, shelf, seen));
+    }
+    ready_alone(alloc, words, seen)
 }
 
 /// What stands before a table or a run is studied is done, or before a command that opens no file.
@@ -72,7 +99,7 @@ fn ready_to_study<F: Shelf>(
     if let Some((setup, _)) = file_and_seed_after("traffic", words) {
         return done(running::ready_setup(alloc, setup, shelf, seen));
     }
-    is_fileless(words)
+    ready_to_audit(alloc, words, shelf, seen)
 }
 
 /// What stands before the command of words is done: nothing, or the reply with which it stops.
@@ -193,6 +220,31 @@ fn explain_files(
     }
 }
 
+/// Appends what a finding is, and which tables of the setup are not in the class.
+fn explain_finding(
+    alloc: Global,
+    seen: &Seen,
+    finding: Finding,
+    text: &mut Text,
+) -> Result<(), NoMemory>
+    ensures { Extends text.old.bytes text.new.bytes }
+{
+    explain_harm(alloc, finding, text)?;
+    explain_setup(alloc, &seen.setup, text)
+}
+
+/// An audit with which a command stopped, and its explanation.
+fn explained_audit(alloc: Global, seen: &Seen, told: Told) -> Result<Told, NoMemory>
+    ensures audit { IfOk result (λ more. more.audit ≡ told.audit) }
+    ensures last { IfOk result (λ more. Extends told.last.bytes more.last.bytes) }
+{
+    let mut told = told;
+    if let Some(finding) = told.audit.finding() {
+        explain_finding(alloc, seen, finding, &mut told.last)?;
+    }
+    Ok(told)
+}
+
 /// An answer with which a command stopped, and its explanation.
 fn explained_answer(
     alloc: Global,
@@ -211,6 +263,7 @@ fn explained_answer(
             explain_files(alloc, words, seen, outcome, &mut text)?;
             Ok(Answer::Said { outcome, text })
         }
+        Answer::Audited(told) => Ok(Answer::Audited(explained_audit(alloc, seen, told)?)),
         other => Ok(other),
     }
 }

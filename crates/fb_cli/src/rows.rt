@@ -1,8 +1,8 @@
 //! What the words of a command line name after a first word.
 
-ghost use Rattle.std.specs.Prelude.{◌≡◌, ℕ, List, Some, map, string_bytes, option_map};
+ghost use Rattle.std.specs.Prelude.{◌≡◌, ◌≤◌, ℕ, IfSome, List, Some, map, string_bytes, option_map};
 ghost use Rattle.table_library.specs.Protocols.{kind_named};
-ghost use Rattle.fb_cli.specs.Rows.{after, one, one_and_seed, page_of, seed_of, text_in, texts, two, words_after};
+ghost use Rattle.fb_cli.specs.Rows.{after, exhibit_named, one, one_and_seed, page_of, seed_of, text_in, texts, two, words_after};
 
 use fb_text::number_within;
 use table_library::{Kind, kind_of};
@@ -67,6 +67,31 @@ pub fn kind_after(name: &str, words: &[String]) -> Option<Kind>
 {
     match words_after(name, words) {
         Some([kind]) => kind_of(kind.as_bytes()),
+        _ => None,
+    }
+}
+
+/// The number of an exhibit that a word spells.
+fn exhibit_named(word: &str) -> Option<u8>
+    ensures number { result ≡ exhibit_named word.now }
+    ensures low { IfSome result (λ number. 1 ≤ number) }
+    ensures high { IfSome result (λ number. number ≤ 12) }
+{
+    match number_within(Some(word.as_bytes()), 12) {
+        Ok(0) => None,
+        Ok(number) => Some(number as u8),
+        Err(_) => None,
+    }
+}
+
+/// The number of an exhibit.
+pub fn exhibit_after(name: &str, words: &[String]) -> Option<u8>
+    ensures number { result ≡ after name.now (one exhibit_named) (map string_bytes words.now) }
+    ensures low { IfSome result (λ number. 1 ≤ number) }
+    ensures high { IfSome result (λ number. number ≤ 12) }
+{
+    match words_after(name, words) {
+        Some([number]) => exhibit_named(number.as_str()),
         _ => None,
     }
 }

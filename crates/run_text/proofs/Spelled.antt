@@ -19,7 +19,7 @@ use Rattle.bus_model.specs.Connecting.{other_holders, AnswersFit}
 use Rattle.bus_model.specs.Carrying.{source_of, takers_of, states_of, master_state, source_words, reply_of, done_of, intervener_or_memory, intervener_takes, with_memory, no_takers}
 use Rattle.bus_model.specs.Connecting.{capturers, intervener}
 use Rattle.bus_model.specs.Steps.{Can, CanConnect, CanData, Purpose}
-use Rattle.bus_model.specs.Soundness.{Sound, PhaseSound, TransactionSound}
+use Rattle.bus_model.specs.Soundness.{PartsFit, RowsSound, Sound, PhaseSound, TransactionSound}
 use Rattle.coherence.proofs.Competing.{competes_raised}
 use Rattle.coherence.proofs.Lists.{In, all-append, in-all}
 use Rattle.coherence.proofs.Progress.{board_there, line_within}
@@ -49,7 +49,26 @@ module _ (setup : Setup) (well : WellFormed setup) (boards : List Progress) (boa
   done_is (Pass a) reply words e r typed = subst (IsReplied (Pass a)) (sym r) (address_is (Pass a) e)
   done_is (Flush a) reply words e r typed = subst (IsReplied (Flush a)) (sym r) (address_is (Flush a) e)
 
-module _ (setup : Setup) (events : List Event) (c : Configuration) (well : WellFormed setup) (s : Sound setup events c)
+-- A transaction has the answers of the other holders, and serves the access of its master or a victim.
+pub record Served (setup : Setup) (rows : List Row) (boards : List Progress) (t : Transaction) : Type 0 where
+  pub answers : AnswersFit setup rows t.line t.event (other_holders setup rows t.master t.line) t.answers
+  pub purpose : (access : Access) × (present_access setup boards t.master ≡ Some access) × Purpose setup rows t access
+
+abbrev pub IsServed : Setup → Configuration → Type 0
+IsServed setup c = (t : Transaction) → c.phase ≡ Connected t → Served setup c.rows c.boards t
+
+served :
+    (setup : Setup) (events : List Event) (c : Configuration) → Sound setup events c → IsServed setup c
+served setup events c s t connected =
+    let sound : TransactionSound setup c.rows c.boards t =
+    subst (PhaseSound setup c.rows c.boards) connected s.transaction in
+    record { answers = sound.answers; purpose = sound.purpose }
+
+-- An event is spelled where the parts of the configuration fit the setup, its rows are sound, and its transaction is
+-- served.
+module _
+    (setup : Setup) (n : ℕ) (c : Configuration) (well : WellFormed setup) (parts : PartsFit setup c)
+    (rows : RowsSound setup n c.rows c.boards) (transaction : IsServed setup c)
   where
     -- The line of a victim is one of memory.
     victim_line :
@@ -57,7 +76,7 @@ module _ (setup : Setup) (events : List Event) (c : Configuration) (well : WellF
         → Rattle.bus_model.specs.Board.victim setup c.rows board line ≡ Some (other, state) → IsLine other
     victim_line board line other state e =
         let r = victim_is setup c.rows board line (other, state) e in
-        let within = (row_sound setup (length events) c.rows c.boards s.rows r.0 r.3.stands).in_memory in
+        let within = (row_sound setup n c.rows c.boards rows r.0 r.3.stands).in_memory in
         omega (arith, within, r.4, well.lines_high)
 
     purpose_line :
@@ -151,8 +170,7 @@ module _ (setup : Setup) (events : List Event) (c : Configuration) (well : WellF
 
     data_is : (e : Carried) (t : Transaction) → CanData setup c e t → IsTyped (DataPhase e) → InRange (DataPhase e)
     data_is e t can typed =
-        let sound : TransactionSound setup c.rows c.boards t =
-        subst (PhaseSound setup c.rows c.boards) can.connected s.transaction in
+        let sound : Served setup c.rows c.boards t = transaction t can.connected in
         let access = sound.purpose.0 in
         let present : present_access setup c.boards t.master ≡ Some access = sound.purpose.1 in
         let own : present_access setup c.boards e.master ≡ Some access =
@@ -183,7 +201,7 @@ module _ (setup : Setup) (events : List Event) (c : Configuration) (well : WellF
           carried_is e t access (present_access setup c.boards e.master) _ own own can.done typed.4,
         )
 
-    step_is : (event : Event) → Can setup c event → IsTyped event → InRange event
+    pub step_is : (event : Event) → Can setup c event → IsTyped event → InRange event
     step_is (Local board before next done) can typed = (
       board_is setup board well (board_there setup c.boards board done.access well can.present),
       done_is setup well c.boards board done.access done.reply _ can.present can.reply typed,
@@ -196,9 +214,9 @@ module _ (setup : Setup) (events : List Event) (c : Configuration) (well : WellF
         board_is setup board well (board_there setup c.boards board can.0 well can.1.present)
     step_is (Grant by winner lines rounds) can typed =
         let raised = competes_raised c.arbitration c.boards winner can.wins.competes in
-        let there = raised_is setup c winner s.parts raised in
-        let shown = settled _ (contest setup c.arbitration c.boards winner well s.parts.boards can.wins.competes) in (
-          board_is setup by well (raised_is setup c by s.parts can.by_raised),
+        let there = raised_is setup c winner parts raised in
+        let shown = settled _ (contest setup c.arbitration c.boards winner well parts.boards can.wins.competes) in (
+          board_is setup by well (raised_is setup c by parts can.by_raised),
           board_is setup winner well there,
           (omega (arith, can.wins.lines_settled, shown.low), omega (arith, can.wins.lines_settled, shown.high)),
           omega (arith, can.wins.rounds_settled, shown.rounds),
@@ -207,7 +225,8 @@ module _ (setup : Setup) (events : List Event) (c : Configuration) (well : WellF
     step_is (DataPhase e) can typed = data_is e can.0 can.1 typed
 
 pub steps_are_spelled : StepsAreSpelled
-steps_are_spelled setup events c event well s can typed = step_is setup events c well s event can typed
+steps_are_spelled setup events c event well s can typed =
+    step_is setup (length events) c well s.parts s.rows (served setup events c s) event can typed
 
 abbrev EachSpelled : Setup → List Event → Configuration → Type 0
 EachSpelled setup events c = AllByRecursion (λ event. IsTyped event → InRange event) events
@@ -215,7 +234,7 @@ EachSpelled setup events c = AllByRecursion (λ event. IsTyped event → InRange
 one_more : StepKeeps EachSpelled
 one_more setup events c event well accepted s can h =
     all-append (λ event. IsTyped event → InRange event) events event h
-    (λ typed. step_is setup events c well s event can typed)
+    (λ typed. step_is setup (length events) c well s.parts s.rows (served setup events c s) event can typed)
 
 pub runs_are_spelled : RunsAreSpelled
 runs_are_spelled setup events c well accepted run =

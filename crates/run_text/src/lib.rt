@@ -24,5 +24,5 @@ mod tests;
 
 pub use laws::run_texts_fit;
 pub use lines::{write_copy, write_memory, write_reply};
-pub use run::{print_ending, print_run};
+pub use run::{print_ending, print_events, print_run};
 pub use spelling::{is_typed, runs_are_spelled, steps_are_spelled};

@@ -75,6 +75,14 @@ impl Printer {
         self.page.flush(sink)
     }
 
+    /// Prints a text as it is.
+    pub(crate) fn text<K: Sink>(&mut self, text: &[u8], sink: &mut K) -> Result<(), PutFailed>
+        ensures paged { Paged (K.faults sink.old) (K.faults sink.new) (K.taken sink.old)
+            (K.taken sink.new) self.old self.new text.now result }
+    {
+        self.page.add(text, sink)
+    }
+
     /// Prints the line of an event.
     fn event<K: Sink>(&mut self, event: &Event, sink: &mut K) -> Result<(), PutFailed>
         requires spelled { IsTyped event.now → InRange event.now }

@@ -6,6 +6,7 @@ ghost use Rattle.trace_text.specs.Ranges.{InRange};
 ghost use Rattle.bus_model.specs.Setup.{line_count, board_places};
 ghost use Rattle.bus_model.specs.Entries.{entries};
 ghost use Rattle.backplane.specs.Machine.{configuration, IsBoard};
+ghost use Rattle.run_text.specs.RunLines.{IsTyped};
 ghost use Rattle.run_text.specs.RunText.{board_replies, replies_text, memory_of, all_memory, copy_of, events_text, board_copies, all_copies, ending, run_text};
 ghost use Rattle.run_text.specs.Printing.{Printed, Paged, IsReady};
 
@@ -16,6 +17,7 @@ use backplane::Machine;
 use bus_signals::{BoardNo, LineNo};
 use fb_edge::{PutFailed, Sink};
 use fb_text::Text;
+use journal::Event;
 
 /// Prints the replies to the reads of a board.
 fn print_board_replies<K: Sink>(
@@ -204,5 +206,37 @@ pub fn print_run<K: Sink>(machine: &Machine, sink: &mut K, line: Text) -> Result
 {
     let mut printer = Printer::new(line);
     print_run_through(machine, &mut printer, sink)?;
+    printer.finish(sink)
+}
+
+/// Prints events through a page, and after them a text.
+fn print_events_through<K: Sink>(
+    events: &[Event],
+    last: &[u8],
+    printer: &mut Printer,
+    sink: &mut K,
+) -> Result<(), PutFailed>
+    requires spelled { AllByRecursion (λ event. IsTyped event → InRange event) events.now }
+    ensures paged { Paged (K.faults sink.old) (K.faults sink.new) (K.taken sink.old)
+        (K.taken sink.new) printer.old printer.new (events_text events.now ++ last.now) result }
+{
+    printer.events(events, sink)?;
+    printer.text(last, sink)
+}
+
+/// Prints the lines of events, and after them a text.
+pub fn print_events<K: Sink>(
+    events: &[Event],
+    last: &[u8],
+    sink: &mut K,
+    line: Text,
+) -> Result<(), PutFailed>
+    requires ready { IsReady line }
+    requires spelled { AllByRecursion (λ event. IsTyped event → InRange event) events.now }
+    ensures printed { Printed (K.faults sink.old) (K.faults sink.new) (K.taken sink.old)
+        (K.taken sink.new) (events_text events.now ++ last.now) result }
+{
+    let mut printer = Printer::new(line);
+    print_events_through(events, last, &mut printer, sink)?;
     printer.finish(sink)
 }

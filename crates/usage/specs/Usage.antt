@@ -10,7 +10,7 @@ pub record Page : Type 0 where
   pub example : List ℕ
   pub statuses : List ℕ
 
--- The commands that take a file.
+-- The commands that take a setup or a text of tables, and run or judge it.
 abbrev pub file_pages : List Page
 file_pages =
     record {
@@ -48,7 +48,12 @@ file_pages =
       example = codes "race examples/tour.setup";
       statuses = codes "0 1 3 4 5 6 7";
     }
-    ∷ record {
+    ∷ []
+
+-- The commands that study a table or a run.
+abbrev pub study_pages : List Page
+study_pages =
+    record {
       name = codes "narrow";
       words = codes "narrow TABLE";
       does = codes "prints the largest part of a table that is in the class";
@@ -61,6 +66,13 @@ file_pages =
       does = codes "counts what crossed the bus in a run";
       example = codes "traffic examples/mixture.setup seed 1";
       statuses = codes "0 1 3 4 5 6 7";
+    }
+    ∷ record {
+      name = codes "audit";
+      words = codes "audit SETUP SCHEDULE, or audit SETUP seed NUMBER";
+      does = codes "prints the run of any tables up to the first harm";
+      example = codes "audit examples/silent-sharer.setup seed 1";
+      statuses = codes "0 3 4 5 6 7 9";
     }
     ∷ []
 
@@ -89,6 +101,13 @@ other_pages =
       statuses = codes "0 5 6";
     }
     ∷ record {
+      name = codes "exhibit";
+      words = codes "exhibit NUMBER";
+      does = codes "prints a run that does harm, of one of 12 tables that are refused";
+      example = codes "exhibit 5";
+      statuses = codes "5 6 9";
+    }
+    ∷ record {
       name = codes "explain";
       words = codes "explain WORDS";
       does = codes "says why the command of these words is refused";
@@ -113,7 +132,7 @@ other_pages =
 
 -- The commands.
 abbrev pub pages : List Page
-pages = file_pages ++ other_pages
+pages = file_pages ++ (study_pages ++ other_pages)
 
 -- The statuses, and what they mean.
 abbrev pub statuses : List (List ℕ)
@@ -126,7 +145,7 @@ statuses =
     ∷ codes "status 5: the output was not written"
     ∷ codes "status 6: memory ran out"
     ∷ codes "status 7: a file is too long"
-    ∷ codes "status 9: no part of a table is in the class"
+    ∷ codes "status 9: no part of a table is in the class, or an event of an audit does harm"
     ∷ []
 
 -- A line of text.

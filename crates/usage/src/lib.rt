@@ -2,8 +2,8 @@
 //! manual and the completion of words are made from what is printed here.
 #![tactic(auto)]
 
-ghost use Rattle.std.specs.Prelude.{◌≡◌, option_map};
-ghost use Rattle.usage.specs.Usage.{help_text, other_pages, page_named, pages, version_text};
+ghost use Rattle.std.specs.Prelude.{◌≡◌, ◌++◌, option_map};
+ghost use Rattle.usage.specs.Usage.{help_text, other_pages, page_named, pages, study_pages, version_text};
 
 #[cfg(test)]
 mod tests;
@@ -20,9 +20,12 @@ pub fn help_text() -> &'static str
      race SETUP: prints a run of a setup in which each board has a thread\n\
      narrow TABLE: prints the largest part of a table that is in the class\n\
      traffic SETUP SCHEDULE, or traffic SETUP seed NUMBER: counts what crossed the bus in a run\n\
+     audit SETUP SCHEDULE, or audit SETUP seed NUMBER: \
+     prints the run of any tables up to the first harm\n\
      make NUMBER: prints the generated setup of a number\n\
      tally NUMBER: prints counts over a run of the generated setup of a number\n\
      library NAME: prints the table of a known protocol: cb, up, wt, wb, ex or un\n\
+     exhibit NUMBER: prints a run that does harm, of one of 12 tables that are refused\n\
      explain WORDS: says why the command of these words is refused\n\
      help, or help COMMAND: lists the commands, or says what one takes\n\
      version: prints the version, and the kit that proves the program\n\
@@ -34,7 +37,7 @@ pub fn help_text() -> &'static str
      status 5: the output was not written\n\
      status 6: memory ran out\n\
      status 7: a file is too long\n\
-     status 9: no part of a table is in the class\n\
+     status 9: no part of a table is in the class, or an event of an audit does harm\n\
      documents: README.md, docs/TEXTS.md, docs/MODEL.md, docs/PROOFS.md\n"
 }
 
@@ -77,6 +80,16 @@ pub fn page_named(name: &str) -> Option<&'static str>
              example: ./futurebus race examples/tour.setup\n\
              statuses: 0 1 3 4 5 6 7\n",
         ),
+        _ => study_page_named(name),
+    }
+}
+
+/// The same of a command that studies a table or a run, or takes no file.
+fn study_page_named(name: &str) -> Option<&'static str>
+    ensures { option_map (λ text. text.now) result
+        ≡ page_named name.now (study_pages ++ other_pages) }
+{
+    match name {
         "narrow" => Some(
             "narrow TABLE: prints the largest part of a table that is in the class\n\
              example: ./futurebus narrow examples/half-exclusive.table\n\
@@ -86,6 +99,12 @@ pub fn page_named(name: &str) -> Option<&'static str>
             "traffic SETUP SCHEDULE, or traffic SETUP seed NUMBER: counts what crossed the bus in a run\n\
              example: ./futurebus traffic examples/mixture.setup seed 1\n\
              statuses: 0 1 3 4 5 6 7\n",
+        ),
+        "audit" => Some(
+            "audit SETUP SCHEDULE, or audit SETUP seed NUMBER: \
+             prints the run of any tables up to the first harm\n\
+             example: ./futurebus audit examples/silent-sharer.setup seed 1\n\
+             statuses: 0 3 4 5 6 7 9\n",
         ),
         _ => other_page_named(name),
     }
@@ -110,6 +129,11 @@ fn other_page_named(name: &str) -> Option<&'static str>
             "library NAME: prints the table of a known protocol: cb, up, wt, wb, ex or un\n\
              example: ./futurebus library cb\n\
              statuses: 0 5 6\n",
+        ),
+        "exhibit" => Some(
+            "exhibit NUMBER: prints a run that does harm, of one of 12 tables that are refused\n\
+             example: ./futurebus exhibit 5\n\
+             statuses: 5 6 9\n",
         ),
         "explain" => Some(
             "explain WORDS: says why the command of these words is refused\n\

@@ -1,0 +1,15 @@
+pub mod Filled
+pub mod Steps
+pub mod Turns
+pub mod Harms
+pub mod First
+pub mod Playing
+pub mod Auditor
+pub mod Touched
+pub mod Seen
+pub mod Seats
+pub mod Parts
+pub mod Rows
+pub mod Answering
+pub mod Exhibits
+pub mod Laws

@@ -1,0 +1,73 @@
+"""Tables for the tools of this folder: read from a file, written, and judged by the program."""
+
+import pathlib
+import subprocess
+import typing
+
+import fbtrace
+
+EXAMPLES = pathlib.Path(__file__).resolve().parent.parent / "examples"
+
+
+class Table(typing.NamedTuple):
+    """A table: its name, its cells with their alternatives as texts, and what `check` says of it,
+    which is a verdict and faults, as words."""
+
+    name: str
+    cells: dict
+    verdict: str
+    faults: list
+
+
+def example(name):
+    """The cells of a table of examples/."""
+    tables = {}
+    text = (EXAMPLES / f"{name}.table").read_text()
+    list(fbtrace.outside_tables(fbtrace.free_text(text), tables))
+    return tables[name]
+
+
+def in_order(cells):
+    """The cells with alternatives, in the order in which a table is written."""
+    for state in fbtrace.STATES:
+        for event in (*fbtrace.ACCESSES, *fbtrace.EVENTS):
+            if cells.get((state, event)):
+                yield state, event
+
+
+def table_lines(name, cells, notes=None):
+    """The lines of a table, with a note behind each cell that has one."""
+    yield f"table {name}\n"
+    for cell in in_order(cells):
+        text = f"{' '.join(cell)} = {' | '.join(cells[cell])}"
+        yield f"{text:<18} # {notes[cell]}\n" if notes and cell in notes else f"{text}\n"
+    yield "end\n"
+
+
+def run(program, *words):
+    """What the program does with these words."""
+    try:
+        return subprocess.run([program, *words], stdin=subprocess.DEVNULL, capture_output=True)
+    except OSError as error:
+        raise fbtrace.Unfit(f"{program}: {error.strerror}") from None
+
+
+def lines_of(ran, path, command):
+    """The lines that a command printed of a file, where it ended with 0 or refused a table."""
+    lines = ran.stdout.decode(errors="replace").splitlines()
+    if ran.returncode not in (0, 1) or not lines:
+        said = f"ended with {ran.returncode} and printed {' '.join(lines[:1]) or 'nothing'}"
+        raise fbtrace.Unfit(f"{path}: `futurebus {command}` {said}")
+    return lines
+
+
+def read_table(path, program):
+    """The one table of a file."""
+    verdict, *faults = lines_of(run(program, "check", path), path, "check")
+    tables = {}
+    with open(path, encoding="utf-8", errors="replace", newline="") as file:
+        others = list(fbtrace.outside_tables(fbtrace.free_text(file.read()), tables))
+    if others or len(tables) != 1:
+        raise fbtrace.Unfit(f"{path}: one table is asked for, and nothing else")
+    ((name, cells),) = tables.items()
+    return Table(name, cells, verdict, [fault.split(" ") for fault in faults])
