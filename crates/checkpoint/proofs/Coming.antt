@@ -6,6 +6,7 @@ use Rattle.std.specs.Result.{result_ok}
 use Rattle.std.specs.Option.{is_some}
 use Rattle.std.proofs.lemmas.Bool.{leb-true}
 use Rattle.std.proofs.lemmas.Fmt.{length-decimal-le}
+use Rattle.fb_text.specs.declared.fault.TextKind.TheVariants.{TooLarge}
 use Rattle.fb_text.specs.Lines.{is_line_feed}
 use Rattle.fb_text.specs.Number.{number_of}
 use Rattle.fb_text.specs.Unread.{number_within}
@@ -113,7 +114,7 @@ no_turns_by :
 no_turns_by line None long e = refl
 no_turns_by line (Some n) long e = go (nat_le n most_turns) refl
   where
-    go : (b : Bool) → nat_le n most_turns ≡ b → is_some (result_ok (cond b (Ok n) (Err _))) ≡ false
+    go : (b : Bool) → nat_le n most_turns ≡ b → is_some (result_ok (cond b (Ok n) (Err TooLarge))) ≡ false
     go false h = refl
     go true h = absurd (too_long (leb-true n most_turns h))
       where
@@ -163,14 +164,15 @@ pub long_comes :
     (m : Machine) (number : ℕ) (part : Part) (front rest : List ℕ) → IsShort part → 260 < length front
     → lines_come_to m number part (lines_after front rest) ≡ Err (fault_of part number)
 long_comes m number part front [] short long = none_come m number part
-long_comes m number part front (b ∷ rest) short long = go (is_line_feed b)
+long_comes m number part front (b ∷ rest) short long =
+    go (is_line_feed b)
+    (long_comes m number part (front ++ b ∷ []) rest short
+    (let l = length-append front (b ∷ []) in omega (arith, l, long)))
   where
-    longer : 260 < length (front ++ b ∷ [])
-    longer = let l = length-append front (b ∷ []) in omega (arith, l, long)
-
     go :
         (t : Bool)
+        → lines_come_to m number part (lines_after (front ++ b ∷ []) rest) ≡ Err (fault_of part number)
         → lines_come_to m number part (cond t (front ∷ lines_after [] rest) (lines_after (front ++ b ∷ []) rest))
         ≡ Err (fault_of part number)
-    go true = long_line m number part front (lines_after [] rest) short long
-    go false = long_comes m number part (front ++ b ∷ []) rest short longer
+    go true more = long_line m number part front (lines_after [] rest) short long
+    go false more = more

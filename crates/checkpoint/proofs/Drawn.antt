@@ -21,12 +21,12 @@ drop_places f k (suc n) (x ∷ xs) within =
     drop_places f (suc k) n xs (omega (arith, within))
     ∙ ap (λ (m : ℕ). f m ∷ drop (suc n) (map f (places_from (suc k) xs))) e
 
-drop_past : {X : Type 0} (n : ℕ) (xs : List X) → length xs ≤ n → drop n xs ≡ []
-drop_past n [] high = drop_none n
-  where
-    drop_none : (n : ℕ) → drop n [] ≡ []
-    drop_none zero = refl
-    drop_none (suc n) = refl
+drop_nothing : (n : ℕ) → ◌≡◌ {A = List (List ℕ)} (drop n []) []
+drop_nothing zero = refl
+drop_nothing (suc n) = refl
+
+drop_past : (n : ℕ) (xs : List (List ℕ)) → length xs ≤ n → drop n xs ≡ []
+drop_past n [] high = drop_nothing n
 drop_past zero (x ∷ xs) high = absurd (omega (arith, high))
 drop_past (suc n) (x ∷ xs) high = drop_past n xs (omega (arith, high))
 

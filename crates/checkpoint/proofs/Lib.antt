@@ -4,3 +4,4 @@ pub mod Coming
 pub mod Counting
 pub mod Drawn
 pub mod Taking
+pub mod Telling

@@ -101,9 +101,12 @@ put_ordered rows boards board line state words below h = go (has_row rows board 
     new = new_row boards board line state words
 
     each : AllByRecursion (λ (x : Row). x.board ≡ new.board → x.fill < new.fill) rows
-    each = all-weaker (Below boards) (λ (x : Row). x.board ≡ new.board → x.fill < new.fill)
-    (λ x k e. let same : (progress_of boards x.board).fills ≡ (progress_of boards board).fills =
-    ap (λ (n : ℕ). (progress_of boards n).fills) e in omega (arith, k, same)) rows below
+    each =
+        all-weaker (Below boards) (λ (x : Row). x.board ≡ new.board → x.fill < new.fill)
+        (λ x k e.
+        let same : (progress_of boards x.board).fills ≡ (progress_of boards board).fills =
+        ap (λ (n : ℕ). (progress_of boards n).fills) e in
+        omega (arith, k, same)) rows below
 
     go :
         (b d : Bool)

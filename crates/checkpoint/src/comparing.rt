@@ -1,6 +1,7 @@
 //! Comparing a line with the next one of a configuration.
 
 ghost use Rattle.std.specs.Prelude.{◌≡◌, ◌≢◌, ◌↔◌, ◌++◌, ◌∷◌, [], true, IsTrue, IfSome, IfNone};
+ghost use Rattle.std.specs.Str.{bytes_eq};
 ghost use Rattle.trace_text.specs.Ranges.{InRange};
 ghost use Rattle.bus_model.specs.Events.{Connect};
 ghost use Rattle.bus_model.specs.Configuration.{Connected as Connection};
@@ -21,6 +22,13 @@ use class_words::is;
 use journal::{Answer, Connected, Event};
 use trace_text::read_event;
 
+/// Whether two texts are the same.
+fn are_bytes(a: &[u8], b: &[u8]) -> bool
+    ensures { result ≡ bytes_eq a.now b.now }
+{
+    a == b
+}
+
 /// Whether bytes and a line feed are this line.
 fn is_spelled(line: &Line, bytes: &[u8]) -> bool
     ensures { IsTrue result ↔ (bytes.now ++ 10 ∷ [] ≡ line.now.bytes) }
@@ -30,14 +38,29 @@ fn is_spelled(line: &Line, bytes: &[u8]) -> bool
         return false;
     }
     let (front, last) = wanted.split_at(bytes.len());
-    front == bytes && is(last, "\n")
+    are_bytes(front, bytes) && is(last, "\n")
+}
+
+/// Whether two answers are the same.
+fn is_answer(a: &Answer, b: &Answer) -> bool
+    ensures { IsTrue result ↔ (a.now ≡ b.now) }
+{
+    *a == *b
 }
 
 /// Whether two lists of answers are the same.
 fn are_answers(a: &[Answer], b: &[Answer]) -> bool
     ensures { IsTrue result ↔ (a.now ≡ b.now) }
 {
-    *a == *b
+    if a.len() != b.len() {
+        return false;
+    }
+    for (i, answer) in a.iter().enumerate() {
+        if !is_answer(answer, &b[i]) {
+            return false;
+        }
+    }
+    true
 }
 
 /// Whether two transactions are the same.

@@ -1,14 +1,12 @@
 //! The lines of a state text, one after another.
 
-ghost use Rattle.std.specs.Prelude.{◌≡◌, ◌<◌, suc, [], Some, MatchOption, length};
-ghost use Rattle.trace_text.specs.Ranges.{InRange};
+ghost use Rattle.std.specs.Prelude.{◌≡◌, ◌≤◌, ◌<◌, [], Some, MatchOption, length};
 ghost use Rattle.bus_model.specs.Setup.{line_count};
 ghost use Rattle.bus_model.specs.Configuration.{Row, row_at};
 ghost use Rattle.backplane.specs.Machine.{configuration, IsBoard};
-ghost use Rattle.backplane.specs.Parts.{phase_of};
 ghost use Rattle.run_text.specs.RunText.{memory_of};
-ghost use Rattle.checkpoint.specs.StateText.{board_line, end_line, from_memory, from_rows, memory_lines, row_line};
-ghost use Rattle.checkpoint.specs.Marks.{IsFirst, IsSpelled, is_left, lines_left};
+ghost use Rattle.checkpoint.specs.StateText.{board_line, end_line, phase_line, row_line};
+ghost use Rattle.checkpoint.specs.Marks.{IsFirst, IsSpelled, item_line, lines_left};
 
 use crate::item::{Item, Step};
 use crate::line::Line;
@@ -20,16 +18,29 @@ use class_words::state_text;
 
 /// The phase, whose transaction is spelled if it has one.
 fn phase_item(machine: &Machine) -> Item
-    ensures phase { (phase : Phase) → result ≡ Item.Phase phase
-        → phase_of phase ≡ (configuration machine.now).phase }
+    ensures line { item_line result ≡ phase_line (configuration machine.now).phase }
     ensures spelled { IsSpelled result }
+    ensures short { length (item_line result) ≤ 260 }
 {
     let _journal = machine.journal(); // gives Sound to the prover
-    let phase = machine.phase();
-    if let Phase::Connected(connected) = &phase {
-        connected.answers.items();
+    match machine.phase() {
+        Phase::Idle => Item::Phase(Phase::Idle),
+        Phase::Granted(board) => Item::Phase(Phase::Granted(board)),
+        Phase::Connected(connected) => {
+            connected.answers.items();
+            Item::Phase(Phase::Connected(connected))
+        }
     }
-    Item::Phase(phase)
+}
+
+/// The item of a line that is spelled.
+fn spelled(line: Line) -> Item
+    ensures line { item_line result ≡ line.bytes }
+    ensures spelled { IsSpelled result }
+    ensures short { length (item_line result) ≤ 260 }
+{
+    let _bytes = line.bytes(); // gives the length to the prover
+    Item::Line(line)
 }
 
 /// The line of a board.
@@ -40,16 +51,10 @@ fn board_item(machine: &Machine, board: BoardNo) -> Line
     let mut line = Line::new();
     line.push(b"board");
     line.number(u64::from(board.0));
-    line.word("place");
-    line.number(u64::from(machine.place(board)));
-    line.word("fills");
-    line.number(machine.fills(board));
-    line.word("spent");
-    line.number(machine.spent(board));
-    line.word("raised");
-    line.mark(machine.raised(board));
-    line.word("served");
-    line.mark(machine.served(board));
+    line.counted("place", u64::from(machine.place(board)));
+    line.counted("fills", machine.fills(board));
+    line.counted("spent", machine.spent(board));
+    line.marks(machine.raised(board), machine.served(board));
     line.push(b"\n");
     line
 }
@@ -103,14 +108,15 @@ fn next_of_memory(machine: &Machine, passed: u32) -> Step
     ensures { IsFirst (configuration machine.now)
         (lines_left (configuration machine.now) (Mark.Memory passed)) result }
 {
+    let _journal = machine.journal(); // gives the number of lines to the prover
     if passed < machine.lines() {
         Step {
-            item: Item::Line(memory_item(machine, passed)),
+            item: spelled(memory_item(machine, passed)),
             mark: Mark::Memory(passed + 1),
         }
     } else {
         Step {
-            item: Item::Line(end_item()),
+            item: spelled(end_item()),
             mark: Mark::Done,
         }
     }
@@ -124,7 +130,7 @@ fn next_of_rows(machine: &Machine, passed: u8, last: Option<u64>) -> Step
 {
     match next_row(machine, passed, last) {
         Some((before, filled)) => Step {
-            item: Item::Line(row_item(machine, BoardNo(before + 1), filled.line, filled.fill)),
+            item: spelled(row_item(machine, BoardNo(before + 1), filled.line, filled.fill)),
             mark: Mark::Row {
                 passed: before,
                 last: Some(filled.fill),
@@ -139,9 +145,10 @@ fn next_of_boards(machine: &Machine, passed: u8) -> Step
     ensures { IsFirst (configuration machine.now)
         (lines_left (configuration machine.now) (Mark.Board passed)) result }
 {
+    let _journal = machine.journal(); // gives the number of boards to the prover
     if passed < machine.boards() {
         Step {
-            item: Item::Line(board_item(machine, BoardNo(passed + 1))),
+            item: spelled(board_item(machine, BoardNo(passed + 1))),
             mark: Mark::Board(passed + 1),
         }
     } else {

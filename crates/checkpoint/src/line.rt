@@ -1,6 +1,6 @@
 //! A line of a state text that is being spelled.
 
-ghost use Rattle.std.specs.Prelude.{◌≡◌, ◌≤◌, ◌+◌, ◌++◌, ◌∷◌, [], Bool, length, map, decimal};
+ghost use Rattle.std.specs.Prelude.{◌≡◌, ◌≤◌, ◌+◌, ◌++◌, ◌∷◌, [], codes, length, map, decimal};
 ghost use Rattle.fb_text.specs.Written.{Appends, after_words};
 ghost use Rattle.checkpoint.specs.StateText.{mark_word};
 
@@ -36,7 +36,8 @@ impl Line {
 
     /// The bytes so far.
     pub fn bytes(&self) -> &[u8]
-        ensures { result.now ≡ self.now.bytes }
+        ensures bytes { result.now ≡ self.now.bytes }
+        ensures short { length self.now.bytes ≤ 256 }
     {
         self.bytes.as_slice()
     }
@@ -78,6 +79,29 @@ impl Line {
         } else {
             self.push(b" 0");
         }
+    }
+
+    /// Appends a name and a number, each after a space.
+    pub fn counted(&mut self, name: &str, value: u64)
+        requires { length name.now + 22 ≤ self.old.spare }
+        ensures appends { Appends self.old self.new (after_words (name.now ∷ decimal value ∷ []))
+            (length name.now + 22) }
+    {
+        self.word(name);
+        self.number(value);
+    }
+
+    /// Appends whether a board has raised a request, and whether it was served.
+    pub fn marks(&mut self, raised: bool, served: bool)
+        requires { 18 ≤ self.old.spare }
+        ensures appends { Appends self.old self.new
+            (after_words
+            (codes "raised" ∷ mark_word raised ∷ codes "served" ∷ mark_word served ∷ [])) 18 }
+    {
+        self.word("raised");
+        self.mark(raised);
+        self.word("served");
+        self.mark(served);
     }
 
     /// Appends four words, each after a space.

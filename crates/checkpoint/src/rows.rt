@@ -63,6 +63,7 @@ pub fn next_row(machine: &Machine, passed: u8, last: Option<u64>) -> Option<(u8,
         (filter (is_left passed last) (configuration machine.now).rows)
         next.0 next.1.line next.1.fill) }
 {
+    let _journal = machine.journal(); // gives the order of the rows to the prover
     let boards = machine.boards();
     let mut passed = passed;
     let mut last = last;

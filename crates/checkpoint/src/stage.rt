@@ -156,8 +156,11 @@ fn is_left(machine: &Machine, mark: Mark) -> bool
 {
     let _ = machine;
     match mark {
+        Mark::Phase => true,
+        Mark::Board(_) => true,
+        Mark::Row { .. } => true,
+        Mark::Memory(_) => true,
         Mark::Done => false,
-        _ => true,
     }
 }
 
