@@ -2,13 +2,15 @@
 use Rattle.std.proofs.Common.{◌≡◌, inl, inr, ℕ, ◌<◌, ◌^◌, List, [], ◌∷◌, Option, Some, None, Ok, Err, ap, refl, sym, subst, ◌∙◌, arith}
 use Rattle.std.proofs.lemmas.Bool.{le-leb}
 use Rattle.std.specs.Prelude.{codes, decimal, IfOk, Result}
+use Rattle.std.specs.Option.{option_map}
 use Rattle.fb_text.specs.Number.{number_of}
 use Rattle.fb_text.specs.Unread.{number_within}
 use Rattle.fb_text.proofs.Decimal.{number_again}
 use Rattle.fb_cli.specs.Command.{Command, Does, Ends, EndsAs, File, Found, IsUnread, none, found}
-use Rattle.fb_cli.specs.Output.{Files, Output, Role}
+use Rattle.fb_cli.specs.declared.role.Role.{Role}
+use Rattle.fb_cli.specs.Output.{Files, Output}
 use Rattle.futurebus_c.specs.Given.{Answers}
-use Rattle.fb_cli.specs.Rows.{command_in, plain_rows, seed_of}
+use Rattle.fb_cli.specs.Rows.{asked, command_in, plain_rows, seed_of}
 use Rattle.fb_cli.specs.Check.{check}
 use Rattle.fb_cli.specs.Fileless.{make, tally}
 use Rattle.fb_cli.specs.Narrow.{narrow}
@@ -33,25 +35,37 @@ given_by spelled (Ok w) line command files output asks is answers =
     subst (λ (asked : Found). EndsAs asked (Some files) ⊥ output) (ap (command_in plain_rows) is ∙ asks) answers
 given_by spelled (Err e) line command files output asks is answers = inr (inr answers)
 
+-- A row that read its words finds its command.
+found_by :
+    {X : Type 0} (o : Option X) (x : X) (finds : X → Found) (rest : Found) → o ≡ Some x
+    → asked o finds rest ≡ finds x
+found_by {X} o x finds rest is = ap (λ (p : Option X). asked p finds rest) is
+
 pub make_asked :
     (n : ℕ) → n < 2 ^ 64 → command_in plain_rows (codes "make" ∷ decimal n ∷ []) ≡ found (make n)
-make_asked n small = rw (seed_again n small) refl
+make_asked n small = found_by (seed_of (decimal n)) n (λ (x : ℕ). found (make x)) _ (seed_again n small)
 
 pub tally_asked :
     (n : ℕ) → n < 2 ^ 64 → command_in plain_rows (codes "tally" ∷ decimal n ∷ []) ≡ found (tally n)
-tally_asked n small = rw (seed_again n small) refl
+tally_asked n small = found_by (seed_of (decimal n)) n (λ (x : ℕ). found (tally x)) _ (seed_again n small)
 
 pub run_seeded_asked :
     (n : ℕ) → n < 2 ^ 64
     → command_in plain_rows (codes "run" ∷ codes "first" ∷ codes "seed" ∷ decimal n ∷ [])
     ≡ found (run_seeded (codes "first") n)
-run_seeded_asked n small = rw (seed_again n small) refl
+run_seeded_asked n small =
+    found_by (option_map (λ (x : ℕ). (codes "first", x)) (seed_of (decimal n))) (codes "first", n)
+    (λ (named : List ℕ × ℕ). found (run_seeded named.0 named.1)) _
+    (ap (option_map (λ (x : ℕ). (codes "first", x))) (seed_again n small))
 
 pub traffic_seeded_asked :
     (n : ℕ) → n < 2 ^ 64
     → command_in plain_rows (codes "traffic" ∷ codes "first" ∷ codes "seed" ∷ decimal n ∷ [])
     ≡ found (traffic_seeded (codes "first") n)
-traffic_seeded_asked n small = rw (seed_again n small) refl
+traffic_seeded_asked n small =
+    found_by (option_map (λ (x : ℕ). (codes "first", x)) (seed_of (decimal n))) (codes "first", n)
+    (λ (named : List ℕ × ℕ). found (traffic_seeded named.0 named.1)) _
+    (ap (option_map (λ (x : ℕ). (codes "first", x))) (seed_again n small))
 
 -- ---- what `plain` wrote over texts that never fail
 

@@ -1,7 +1,8 @@
 -- What a call gives its caller: an output of a command, in the caller's buffer.
 use Rattle.std.specs.Prelude.{◌≡◌, ℕ, List, length, take, nat_le, Option, Some, Result, Ok, Err, if◌then◌else◌}
 use Rattle.fb_cli.specs.Command.{Command, Ends, EndsAs}
-use Rattle.fb_cli.specs.Output.{Output, Files, Refusal, refusal_output}
+use Rattle.fb_cli.specs.declared.answers.Refusal.{Refusal}
+use Rattle.fb_cli.specs.Output.{Output, Files, refusal_output}
 use Rattle.fb_cli.specs.Rows.{command_in, plain_rows}
 
 -- The status of an output whose text is to fit a buffer of so many bytes: 5 where it does not.
