@@ -5,3 +5,4 @@ pub mod Counting
 pub mod Drawn
 pub mod Taking
 pub mod Telling
+pub mod Spelling

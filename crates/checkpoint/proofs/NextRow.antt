@@ -4,15 +4,18 @@ use Rattle.std.specs.Prelude.{filter, find, nat_lt, ◌==◌, if◌then◌else�
 use Rattle.std.specs.List.{AllByRecursion}
 use Rattle.std.proofs.lemmas.Bool.{both_ways, cases_lt}
 use Rattle.std.proofs.lemmas.Bool.Decides.{nat_tests}
-use Rattle.bus_model.specs.Configuration.{Progress, Row, fresh, is_copy, progress_of, row_at}
+use Rattle.bus_model.specs.Configuration.{Configuration, Progress, Row, fresh, is_copy, progress_of, row_at}
 use Rattle.bus_model.specs.Places.{at_place}
-use Rattle.bus_model.specs.Soundness.{OtherCopy, PairsByRecursion}
+use Rattle.bus_model.specs.Events.{Event}
+use Rattle.bus_model.specs.Runs.{Run}
+use Rattle.bus_model.specs.Setup.{AllInClass, Setup, WellFormed, line_count}
+use Rattle.bus_model.specs.Soundness.{OtherCopy, PairsByRecursion, RowSound, Sound}
 use Rattle.coherence.proofs.Lists.{In, in-all, in-find}
 use Rattle.coherence.proofs.Places.{IsPlace, at_place_is}
 use Rattle.coherence.proofs.RowChanges.{is_copy-own, is_copy-parts}
 use Rattle.checkpoint.specs.declared.item.Filled.{Filled}
 use Rattle.checkpoint.specs.Marks.{IsNextRow, better, fill_at, is_after, is_left, lesser, oldest_below}
-use Rattle.checkpoint.proofs.Ordered.{Earlier, Ordered}
+use Rattle.checkpoint.proofs.Ordered.{Earlier, Ordered, runs_ordered}
 
 pub filter_same :
     {X : Type 0} (p q : X → Bool) (xs : List X) → ((x : X) → In x xs → p x ≡ q x) → filter p xs ≡ filter q xs
@@ -339,3 +342,57 @@ before_boards rows boards each =
   where
     first : (y : Row) → 1 ≤ y.board → is_left 0 None y ≡ true
     first y l = grind (arith, nat_tests)
+
+-- ---- the rows of a run
+
+-- What holds of the rows of a machine.
+module _
+    (setup : Setup) (events : List Event) (c : Configuration) (well : WellFormed setup) (accepted : AllInClass setup)
+    (run : Run setup events c) (sound : Sound setup events c)
+  where
+    ordered : Ordered c.rows
+    ordered = runs_ordered setup events c well accepted run
+
+    within : (y : Row) → In y c.rows → y.line < line_count setup
+    within y m = (in-all (RowSound setup c.rows c.boards) c.rows y sound.rows.each m).in_memory
+
+    each_board : (y : Row) → In y c.rows → IsPlace (length setup.boards) y.board
+    each_board y m =
+        subst (λ (n : ℕ). IsPlace n y.board) sound.parts.boards
+        (filler_is c.boards y.board y.fill (in-all (RowSound setup c.rows c.boards) c.rows y sound.rows.each m).numbered)
+
+    pub row_found :
+        (left : List Row) (passed : ℕ) (last : Option ℕ) (f : Filled) → left ≡ filter (is_left passed last) c.rows
+        → Some f ≡ oldest_below c.rows (passed + 1) last (line_count setup)
+        → IsNextRow c.rows left passed f.line f.fill
+    row_found left passed last f is e =
+        let next : passed + 1 ≡ suc passed = omega arith in
+        subst (λ (ls : List Row). IsNextRow c.rows ls passed f.line f.fill) (sym is)
+        (found_next c.rows (line_count setup) ordered sound.rows.one_copy within passed last f
+        (sym (e ∙ ap (λ (n : ℕ). oldest_below c.rows n last (line_count setup)) next)))
+
+    pub row_below :
+        (passed : ℕ) (last : Option ℕ) (f : Filled)
+        → Some f ≡ oldest_below c.rows (passed + 1) last (line_count setup) → f.line < line_count setup
+    row_below passed last f e =
+        (subst (Tells c.rows (passed + 1) last (line_count setup)) (sym e)
+        (oldest_tells c.rows (passed + 1) last (line_count setup))).low
+
+    pub none_found :
+        (left : List Row) (passed : ℕ) (last : Option ℕ) → left ≡ filter (is_left passed last) c.rows
+        → None ≡ oldest_below c.rows (passed + 1) last (line_count setup)
+        → left ≡ filter (is_left (passed + 1) None) c.rows
+    none_found left passed last is e =
+        let next : passed + 1 ≡ suc passed = omega arith in
+        is
+        ∙ none_next c.rows (line_count setup) ordered sound.rows.one_copy within passed last
+        (sym (e ∙ ap (λ (n : ℕ). oldest_below c.rows n last (line_count setup)) next))
+        ∙ ap (λ (n : ℕ). filter (is_left n None) c.rows) (sym next)
+
+    pub none_left :
+        (left : List Row) (passed : ℕ) (last : Option ℕ) → left ≡ filter (is_left passed last) c.rows
+        → length setup.boards ≤ passed → left ≡ []
+    none_left left passed last is past = is ∙ past_boards c.rows (length setup.boards) passed last each_board past
+
+    pub all_left : filter (is_left 0 None) c.rows ≡ c.rows
+    all_left = before_boards c.rows (length setup.boards) each_board

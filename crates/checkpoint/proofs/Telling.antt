@@ -1,5 +1,5 @@
 -- The line of a transaction.
-use Rattle.std.proofs.Common.{◌≡◌, ℕ, zero, suc, Bool, true, List, [], ◌∷◌, ◌++◌, drop, take, length, refl, sym, ap, ◌∙◌, append_assoc}
+use Rattle.std.proofs.Common.{◌≡◌, ℕ, zero, suc, Bool, true, false, List, [], ◌∷◌, ◌++◌, drop, take, length, refl, sym, ap, ◌∙◌, append_assoc}
 use Rattle.std.specs.Prelude.{codes}
 use Rattle.std.specs.Str.{bytes_eq}
 use Rattle.std.proofs.lemmas.Slice.Eq.{bytes_eq-Decides}
@@ -72,3 +72,29 @@ told_front wanted bytes e = (
   (bytes_eq-Decides (drop (length bytes) wanted) (10 ∷ [])).1
       (ap (λ (w : List ℕ). drop (length bytes) w) (sym e) ∙ drop_own bytes (10 ∷ [])),
 )
+
+-- The same, as two tests of the parts of a line tell it.
+module _
+    (line wanted bytes front back : List ℕ) (first rest : Bool) (w : wanted ≡ line)
+    (f : front ≡ take (length bytes) wanted) (b : back ≡ drop (length bytes) wanted)
+    (d : first ≡ bytes_eq front bytes)
+  where
+    first_is : bytes_eq (take (length bytes) line) bytes ≡ first
+    first_is = sym (d ∙ ap (λ (x : List ℕ). bytes_eq x bytes) (f ∙ ap (λ (x : List ℕ). take (length bytes) x) w))
+
+    pub then_told :
+        rest ≡ bytes_eq back (10 ∷ []) → first ≡ true
+        → (rest ≡ true → bytes ++ 10 ∷ [] ≡ line) × (bytes ++ 10 ∷ [] ≡ line → rest ≡ true)
+    then_told r yes =
+        let rest_is : bytes_eq (drop (length bytes) line) (10 ∷ []) ≡ rest =
+        sym (r ∙ ap (λ (x : List ℕ). bytes_eq x (10 ∷ [])) (b ∙ ap (λ (x : List ℕ). drop (length bytes) x) w)) in (
+          λ h. front_told line bytes (first_is ∙ yes) (rest_is ∙ h),
+          λ e. sym rest_is ∙ (told_front line bytes e).1,
+        )
+
+    pub else_told :
+        first ≡ false → (first ≡ true → bytes ++ 10 ∷ [] ≡ line) × (bytes ++ 10 ∷ [] ≡ line → first ≡ true)
+    else_told no = (
+      λ h. absurd (let e : ⊥ = let k = sym no ∙ h in cc in e),
+      λ e. sym first_is ∙ (told_front line bytes e).0,
+    )
