@@ -6,6 +6,7 @@ use Rattle.std.proofs.lemmas.Slice.Eq.{bytes_eq-Decides}
 use Rattle.trace_text.proofs.Binds.{is_word}
 use Rattle.bus_model.specs.Events.{Event}
 use Rattle.backplane.specs.Machine.{Machine, MayHappen, configuration, happened}
+use Rattle.replayer.specs.Lines.{event_in, is_end_word}
 use Rattle.replayer.specs.Replaying.{step}
 use Rattle.replayer.proofs.Stepping.{step_may, step_not}
 use Rattle.checkpoint.specs.declared.fault.RestoreFault.TheVariants.{Spelling, NotARun, Differs}
@@ -13,8 +14,9 @@ use Rattle.checkpoint.specs.declared.item.Step.{Step}
 use Rattle.checkpoint.specs.declared.mark.Mark.{Mark}
 use Rattle.checkpoint.specs.Marks.{IsFirst, first_line, has_line, item_line, lines_left}
 use Rattle.checkpoint.specs.Restoring.{by_step, is_line}
-use Rattle.checkpoint.specs.Restore.{IsReading, Place, after_line, at_event, at_state, comes_to, events, lines_come_to, over, reading, refused, state, turns}
-use Rattle.checkpoint.specs.Stages.{state_place}
+use Rattle.checkpoint.specs.Restore.{IsReading, Place, after_line, at_event, at_state, closed, comes_to, events, lines_come_to, over, reading, refused, state, turns}
+use Rattle.checkpoint.specs.declared.reading.Stage.{Stage}
+use Rattle.checkpoint.specs.Stages.{place_at, state_place}
 use Rattle.checkpoint.proofs.Coming.{long_comes}
 
 -- A line of a configuration that is not as it should be.
@@ -93,3 +95,44 @@ long_state m number mark step front rest first long =
     (sym first.lines)
     (sym (long_comes m number (state (item_line step.item) (lines_left (configuration m) step.mark)) front rest
     first.short long))
+
+-- ---- the lines of events
+
+pub events_taken :
+    (m : Machine) (number : ℕ) (line : List ℕ) (event : Event) → is_end_word line ≡ false
+    → event_in line ≡ Some event → at_event m number event ≡ closed m number events line
+events_taken m number line event no_end some = rw (no_end, some) refl
+
+pub events_none :
+    (m : Machine) (number : ℕ) (line : List ℕ) → is_end_word line ≡ false → event_in line ≡ None
+    → over (Err (Spelling number)) ≡ closed m number events line
+events_none m number line no_end none = rw (no_end, none) refl
+
+-- ---- the end of the text
+
+pub answer_left :
+    (m : Machine) (number : ℕ) (left : List (List ℕ)) → has_line left ≡ true
+    → Err (Differs number) ≡ comes_to (state_place m number left []) []
+answer_left m number [] some = cc
+answer_left m number (w ∷ more) some = refl
+
+pub answer_none :
+    (m : Machine) (number : ℕ) (left : List (List ℕ)) → has_line left ≡ false
+    → Ok m ≡ comes_to (state_place m number left []) []
+answer_none m number [] none = refl
+answer_none m number (w ∷ more) none = cc
+
+state_ends :
+    (m : Machine) (number : ℕ) (left : List (List ℕ)) (unfinished : List ℕ)
+    → comes_to (state_place m number left []) [] ≡ comes_to (state_place m number left unfinished) []
+state_ends m number [] unfinished = refl
+state_ends m number (w ∷ more) unfinished = refl
+
+-- A line without its line feed is no line.
+pub ends :
+    (m : Machine) (number : ℕ) (stage : Stage) (unfinished : List ℕ)
+    → comes_to (place_at m number stage []) [] ≡ comes_to (place_at m number stage unfinished) []
+ends m number Stage.Turns unfinished = refl
+ends m number Stage.Events unfinished = refl
+ends m number (Stage.State mark) unfinished = state_ends m number (lines_left (configuration m) mark) unfinished
+ends m number (Stage.Refused fault) unfinished = refl

@@ -2,10 +2,7 @@
 use Rattle.std.specs.Prelude.{◌≡◌, ℕ, zero, suc, ◌<◌, Bool, true, false, ◌&&◌, ◌||◌, ◌==◌, nat_lt, List, [], ◌∷◌, Option, Some, None, drop, filter, length, ◌≤◌, option_map, if◌then◌else◌}
 use Rattle.trace_text.specs.Ranges.{InRange}
 use Rattle.bus_model.specs.Events.{Connect}
-use Rattle.bus_model.specs.Configuration.{Configuration, Row, row_at}
-use Rattle.backplane.specs.declared.phase.Phase.{Phase}
-use Rattle.backplane.specs.declared.phase.Phase.TheVariants.{Idle, Granted, Connected}
-use Rattle.backplane.specs.Parts.{phase_of}
+use Rattle.bus_model.specs.Configuration.{Configuration, Connected, Row, row_at}
 use Rattle.checkpoint.specs.declared.mark.Mark.{Mark}
 use Rattle.checkpoint.specs.declared.item.Item.{Item}
 use Rattle.checkpoint.specs.declared.item.Filled.{Filled}
@@ -32,14 +29,12 @@ lines_left c Mark.Done = []
 
 -- The line of an item.
 abbrev pub item_line : Item → List ℕ
-item_line (Item.Phase phase) = phase_line (phase_of phase)
+item_line (Item.Connected t) = phase_line (Connected t)
 item_line (Item.Line line) = line.bytes
 
 -- A transaction is spelled.
 abbrev pub IsSpelled : Item → Type 0
-IsSpelled (Item.Phase (Connected t)) = InRange (Connect t)
-IsSpelled (Item.Phase (Granted board)) = Unit {0}
-IsSpelled (Item.Phase Idle) = Unit {0}
+IsSpelled (Item.Connected t) = InRange (Connect t)
 IsSpelled (Item.Line line) = Unit {0}
 
 -- An item is the first of these lines, and the others are left at its mark.

@@ -15,9 +15,7 @@ use crate::item::Item;
 use crate::line::Line;
 use crate::mark::Mark;
 use crate::turns::behind;
-use crate::writing::{granted_line, idle_line};
-use backplane::{Machine, Phase};
-use bus_signals::BoardNo;
+use backplane::Machine;
 use class_words::is;
 use journal::{Answer, Connected, Event};
 use trace_text::read_event;
@@ -94,9 +92,7 @@ fn is_item(item: &Item, bytes: &[u8]) -> bool
     ensures { IsTrue result ↔ (bytes.now ++ 10 ∷ [] ≡ item_line item.now) }
 {
     match item {
-        Item::Phase(Phase::Idle) => is_spelled(&idle_line(), bytes),
-        Item::Phase(Phase::Granted(board)) => is_spelled(&granted_line(*board), bytes),
-        Item::Phase(Phase::Connected(connected)) => tells(connected, bytes),
+        Item::Connected(connected) => tells(connected, bytes),
         Item::Line(line) => is_spelled(line, bytes),
     }
 }

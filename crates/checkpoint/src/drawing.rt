@@ -12,6 +12,7 @@ use crate::item::{Item, Step};
 use crate::line::Line;
 use crate::mark::Mark;
 use crate::rows::next_row;
+use crate::writing::{granted_line, idle_line};
 use backplane::{Machine, Phase};
 use bus_signals::{BoardNo, LineNo};
 use class_words::state_text;
@@ -24,11 +25,11 @@ fn phase_item(machine: &Machine) -> Item
 {
     let _journal = machine.journal(); // gives Sound to the prover
     match machine.phase() {
-        Phase::Idle => Item::Phase(Phase::Idle),
-        Phase::Granted(board) => Item::Phase(Phase::Granted(board)),
+        Phase::Idle => spelled(idle_line()),
+        Phase::Granted(board) => spelled(granted_line(board)),
         Phase::Connected(connected) => {
             connected.answers.items();
-            Item::Phase(Phase::Connected(connected))
+            Item::Connected(connected)
         }
     }
 }

@@ -2,12 +2,12 @@
 
 use crate::line::Line;
 use crate::mark::Mark;
-use backplane::Phase;
+use journal::Connected;
 
-/// The next line: that of a phase, or one that is spelled already.
+/// The next line: that of a transaction, or one that is spelled already.
 #[derive(Drop)]
 pub enum Item {
-    Phase(Phase),
+    Connected(Connected),
     Line(Line),
 }
 

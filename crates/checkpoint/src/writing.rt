@@ -10,7 +10,6 @@ ghost use Rattle.checkpoint.specs.Marks.{IsSpelled, item_line};
 
 use crate::item::Item;
 use crate::line::Line;
-use backplane::Phase;
 use bus_signals::BoardNo;
 use fb_text::Text;
 use journal::{Connected, Event};
@@ -61,9 +60,7 @@ pub fn write_item(item: &Item, text: &mut Text)
     ensures appends { Appends text.old text.new (item_line item.now) 260 }
 {
     match item {
-        Item::Phase(Phase::Idle) => write_line(&idle_line(), text),
-        Item::Phase(Phase::Granted(board)) => write_line(&granted_line(*board), text),
-        Item::Phase(Phase::Connected(connected)) => write_connected(connected, text),
+        Item::Connected(connected) => write_connected(connected, text),
         Item::Line(line) => write_line(line, text),
     }
 }
