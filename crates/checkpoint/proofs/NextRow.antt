@@ -396,3 +396,13 @@ module _
 
     pub all_left : filter (is_left 0 None) c.rows ≡ c.rows
     all_left = before_boards c.rows (length setup.boards) each_board
+
+-- The row that is found for a board and a line is of these.
+pub row_place :
+    (rows : List Row) (passed line : ℕ) (row : Row) → row_at rows (suc passed) line ≡ Some row
+    → (row_at rows (passed + 1) line ≡ Some row) × (row.board ≡ passed + 1) × (row.line ≡ line)
+row_place rows passed line row at =
+    let next : suc passed ≡ passed + 1 = omega arith in
+    let m = in-find (is_copy (suc passed) line) rows row at in
+    let place = is_copy-parts (suc passed) line row m.1 in
+    (ap (λ (n : ℕ). row_at rows n line) (sym next) ∙ at, place.0 ∙ next, place.1)

@@ -17,7 +17,8 @@ use Rattle.checkpoint.specs.Restoring.{by_step, is_line}
 use Rattle.checkpoint.specs.Restore.{IsReading, Place, after_line, at_event, at_state, closed, comes_to, events, lines_come_to, over, reading, refused, state, turns}
 use Rattle.checkpoint.specs.declared.reading.Stage.{Stage}
 use Rattle.checkpoint.specs.Stages.{place_at, state_place}
-use Rattle.checkpoint.proofs.Coming.{long_comes}
+use Rattle.replayer.specs.Reader.{LacksFeed}
+use Rattle.checkpoint.proofs.Coming.{closed_comes, lines_closed, lines_open, long_comes}
 
 -- A line of a configuration that is not as it should be.
 pub refused_state :
@@ -85,16 +86,57 @@ event_refused old number event not =
 
 -- A line of a configuration that is too long.
 pub long_state :
-    (m : Machine) (number : ℕ) (mark : Mark) (step : Step) (front rest : List ℕ)
+    (m : Machine) (number : ℕ) (mark : Mark) (step : Step) (front rest behind : List ℕ)
     → IsFirst (configuration m) (lines_left (configuration m) mark) step → 260 < length front
-    → comes_to (refused (state_place m number (lines_left (configuration m) mark) [])) rest
+    → comes_to (refused (state_place m number (lines_left (configuration m) mark) [])) behind
     ≡ comes_to (state_place m number (lines_left (configuration m) mark) front) rest
-long_state m number mark step front rest first long =
+long_state m number mark step front rest behind first long =
     subst (λ (ls : List (List ℕ)).
-    comes_to (refused (state_place m number ls [])) rest ≡ comes_to (state_place m number ls front) rest)
+    comes_to (refused (state_place m number ls [])) behind ≡ comes_to (state_place m number ls front) rest)
     (sym first.lines)
     (sym (long_comes m number (state (item_line step.item) (lines_left (configuration m) step.mark)) front rest
     first.short long))
+
+-- ---- a line that goes on, or ends
+
+pub go_on :
+    (m : Machine) (number : ℕ) (stage : Stage) (kept bytes more : List ℕ) → LacksFeed bytes
+    → comes_to (place_at m number stage (kept ++ bytes)) more ≡ comes_to (place_at m number stage kept) (bytes ++ more)
+go_on m number Stage.Turns kept bytes more lacks =
+    ap (lines_come_to m number turns) (sym (lines_open kept bytes more lacks))
+go_on m number Stage.Events kept bytes more lacks =
+    ap (lines_come_to m number events) (sym (lines_open kept bytes more lacks))
+go_on m number (Stage.State mark) kept bytes more lacks = go (lines_left (configuration m) mark)
+  where
+    go :
+        (left : List (List ℕ))
+        → comes_to (state_place m number left (kept ++ bytes)) more
+        ≡ comes_to (state_place m number left kept) (bytes ++ more)
+    go [] = refl
+    go (w ∷ ws) = ap (lines_come_to m number (state w ws)) (sym (lines_open kept bytes more lacks))
+go_on m number (Stage.Refused fault) kept bytes more lacks = refl
+
+pub close_on :
+    (m : Machine) (number : ℕ) (stage : Stage) (kept bytes more : List ℕ) → LacksFeed bytes
+    → comes_to (after_line (place_at m number stage []) (kept ++ bytes)) more
+    ≡ comes_to (place_at m number stage kept) (bytes ++ 10 ∷ more)
+close_on m number Stage.Turns kept bytes more lacks =
+    closed_comes m number turns (kept ++ bytes) more
+    ∙ ap (lines_come_to m number turns) (sym (lines_closed kept bytes more lacks))
+close_on m number Stage.Events kept bytes more lacks =
+    closed_comes m number events (kept ++ bytes) more
+    ∙ ap (lines_come_to m number events) (sym (lines_closed kept bytes more lacks))
+close_on m number (Stage.State mark) kept bytes more lacks = go (lines_left (configuration m) mark)
+  where
+    go :
+        (left : List (List ℕ))
+        → comes_to (after_line (state_place m number left []) (kept ++ bytes)) more
+        ≡ comes_to (state_place m number left kept) (bytes ++ 10 ∷ more)
+    go [] = refl
+    go (w ∷ ws) =
+        closed_comes m number (state w ws) (kept ++ bytes) more
+        ∙ ap (lines_come_to m number (state w ws)) (sym (lines_closed kept bytes more lacks))
+close_on m number (Stage.Refused fault) kept bytes more lacks = refl
 
 -- ---- the lines of events
 

@@ -85,16 +85,16 @@ module _
     pub then_told :
         rest ≡ bytes_eq back (10 ∷ []) → first ≡ true
         → (rest ≡ true → bytes ++ 10 ∷ [] ≡ line) × (bytes ++ 10 ∷ [] ≡ line → rest ≡ true)
-    then_told r yes =
+    then_told r first_holds =
         let rest_is : bytes_eq (drop (length bytes) line) (10 ∷ []) ≡ rest =
         sym (r ∙ ap (λ (x : List ℕ). bytes_eq x (10 ∷ [])) (b ∙ ap (λ (x : List ℕ). drop (length bytes) x) w)) in (
-          λ h. front_told line bytes (first_is ∙ yes) (rest_is ∙ h),
+          λ h. front_told line bytes (first_is ∙ first_holds) (rest_is ∙ h),
           λ e. sym rest_is ∙ (told_front line bytes e).1,
         )
 
     pub else_told :
         first ≡ false → (first ≡ true → bytes ++ 10 ∷ [] ≡ line) × (bytes ++ 10 ∷ [] ≡ line → first ≡ true)
-    else_told no = (
-      λ h. absurd (let e : ⊥ = let k = sym no ∙ h in cc in e),
+    else_told fails = (
+      λ h. absurd (let e : ⊥ = let k = sym fails ∙ h in cc in e),
       λ e. sym first_is ∙ (told_front line bytes e).0,
     )

@@ -114,10 +114,11 @@ impl Restore {
     {
         if self.kept.add(bytes) {
             take_line(&mut self.reading, self.kept.bytes());
+            self.kept.clear();
         } else {
             refuse_long(&mut self.reading);
+            self.kept.clear();
         }
-        self.kept.clear();
     }
 
     /// The line that is read goes on with these bytes, after which the piece ends.
@@ -130,6 +131,7 @@ impl Restore {
     {
         if !self.kept.add(bytes) {
             refuse_long(&mut self.reading);
+            self.kept.clear();
         }
     }
 }

@@ -58,6 +58,7 @@ fn oldest(machine: &Machine, board: BoardNo, last: Option<u64>) -> Option<Filled
 pub fn next_row(machine: &Machine, passed: u8, last: Option<u64>) -> Option<(u8, Filled)>
     ensures none { IfNone result (filter (is_left passed last) (configuration machine.now).rows ≡ []) }
     ensures board { IfSome result (λ next. next.0 < length machine.now.setup.boards) }
+    ensures few { IfSome result (λ next. next.0 < 16) }
     ensures line { IfSome result (λ next. next.1.line < line_count machine.now.setup) }
     ensures row { IfSome result (λ next. IsNextRow (configuration machine.now).rows
         (filter (is_left passed last) (configuration machine.now).rows)

@@ -34,18 +34,35 @@ fn refuse(reading: &mut Reading)
     reading.stage = Stage::Refused(fault);
 }
 
+/// The line of a configuration that is read has more than 260 bytes.
+fn refuse_long_state(reading: &mut Reading, mark: Mark)
+    requires stage { reading.old.stage ≡ Stage.State mark }
+    requires reads { IsReading (place_of reading.old []) }
+    ensures counted { IsCounted reading.new }
+    ensures setup { reading.new.machine.setup ≡ reading.old.machine.setup }
+    ensures place { (front rest behind : List ℕ) → 260 < length front
+        → comes_to (place_of reading.new []) behind ≡ comes_to (place_of reading.old front) rest }
+{
+    match next_step(&reading.machine, mark) {
+        Some(_) => refuse(reading),
+        None => refuse(reading),
+    }
+}
+
 /// The line that is read has more than 260 bytes.
 pub fn refuse_long(reading: &mut Reading)
     requires reads { IsReading (place_of reading.old []) }
     ensures counted { IsCounted reading.new }
     ensures setup { reading.new.machine.setup ≡ reading.old.machine.setup }
-    ensures place { (front rest : List ℕ) → 260 < length front
-        → comes_to (place_of reading.new []) rest ≡ comes_to (place_of reading.old front) rest }
+    ensures place { (front rest behind : List ℕ) → 260 < length front
+        → comes_to (place_of reading.new []) behind ≡ comes_to (place_of reading.old front) rest }
 {
-    if let Stage::State(mark) = reading.stage {
-        let _step = next_step(&reading.machine, mark); // gives the length of the line to the prover
+    match reading.stage {
+        Stage::Turns => refuse(reading),
+        Stage::Events => refuse(reading),
+        Stage::State(mark) => refuse_long_state(reading, mark),
+        Stage::Refused(_) => {}
     }
-    refuse(reading);
 }
 
 /// The line of the turns.
