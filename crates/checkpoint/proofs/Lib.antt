@@ -6,3 +6,4 @@ pub mod Drawn
 pub mod Taking
 pub mod Telling
 pub mod Spelling
+pub mod Saying

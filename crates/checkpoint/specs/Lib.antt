@@ -3,3 +3,4 @@ pub mod Marks
 pub mod Restoring
 pub mod Restore
 pub mod Stages
+pub mod Checkpoints

@@ -28,6 +28,8 @@ mod reading;
 mod restore;
 mod rows;
 mod stage;
+#[cfg(test)]
+mod tests;
 mod turns;
 mod writing;
 

@@ -3,7 +3,8 @@
 ghost use Rattle.std.specs.Prelude.{◌≡◌, ◌↔◌, ◌++◌, ◌∷◌, ℕ, List, [], IsTrue};
 ghost use Rattle.backplane.specs.Machine.{opened};
 ghost use Rattle.replayer.specs.Reader.{LacksFeed};
-ghost use Rattle.checkpoint.specs.Restoring.{restored};
+ghost use Rattle.checkpoint.specs.Restoring.{closed_lines, restored};
+ghost use Rattle.checkpoint.specs.Checkpoints.{Accepts, Says};
 ghost use Rattle.checkpoint.specs.Restore.{IsReading, StandsFor, comes_to};
 
 use crate::fault::RestoreFault;
@@ -69,6 +70,10 @@ impl Restore {
     pub fn finish(self) -> Result<Machine, RestoreFault>
         ensures restored { (text : List ℕ) → StandsFor self text
             → result ≡ restored (opened self.setup) text }
+        ensures says { (text : List ℕ) → StandsFor self text
+            → Says self.setup (closed_lines text) result }
+        ensures accepts { (text : List ℕ) → StandsFor self text
+            → Accepts self.setup (closed_lines text) result }
     {
         self.answer()
     }
