@@ -111,17 +111,18 @@ whole asked files A B text status sure kept (o , ends , inr cut) = absurd (kept 
 -- The same over the words of a call and the texts that it was given.
 pub written :
     {W E : Type 0} (spelled : W → List (List ℕ)) (words : Result W E) (w : W) (line : List (List ℕ))
-    (a b first second before text : List ℕ) (A B : Type 0) (status : ℕ)
-    → words ≡ Ok w → line ≡ spelled w → a ≡ first → b ≡ second → before ≡ [] → (A → ⊥) → (status ≡ 5 → ⊥)
+    (a b first second before text said : List ℕ) (A B : Type 0) (status : ℕ)
+    → words ≡ Ok w → line ≡ spelled w → a ≡ first → b ≡ second → before ≡ [] → said ≡ text → (A → ⊥) → (status ≡ 5 → ⊥)
     → Does (command_in plain_rows line) (Some (files_of a b)) A B (Some before) (Some text) status
-    → Answers spelled words (files_of first second) (record { status = status; text = text })
-written {W} {E} spelled words w line a b first second before text A B status is spells one two empty sure kept does =
+    → Answers spelled words (files_of first second) (record { status = status; text = said })
+written {W} {E} spelled words w line a b first second before text said A B status is spells one two empty same sure kept does =
     let d1 = subst (λ (l : List (List ℕ)). Does (command_in plain_rows l) (Some (files_of a b)) A B (Some before) (Some text) status) spells does in
     let d2 = subst (λ (x : List ℕ). Does (command_in plain_rows (spelled w)) (Some (files_of x b)) A B (Some before) (Some text) status) one d1 in
     let d3 = subst (λ (x : List ℕ). Does (command_in plain_rows (spelled w)) (Some (files_of first x)) A B (Some before) (Some text) status) two d2 in
     let d4 = subst (λ (x : List ℕ). Does (command_in plain_rows (spelled w)) (Some (files_of first second)) A B (Some x) (Some text) status) empty d3 in
-    subst (λ (v : Result W E). Answers spelled v (files_of first second) (record { status = status; text = text })) (sym is)
-    (inl (whole (command_in plain_rows (spelled w)) (files_of first second) A B text status sure kept d4))
+    subst (λ (v : Result W E). Answers spelled v (files_of first second) (record { status = status; text = said })) (sym is)
+    (inl (subst (λ (t : List ℕ). EndsAs (command_in plain_rows (spelled w)) (Some (files_of first second)) ⊥ (record { status = status; text = t }))
+    (sym same) (whole (command_in plain_rows (spelled w)) (files_of first second) A B text status sure kept d4)))
 
 -- Want of memory answers any words.
 pub unanswered :

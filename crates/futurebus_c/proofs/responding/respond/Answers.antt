@@ -22,8 +22,8 @@ returns-then-status-eq-TOO_SHORT c =
 pub returns : goal.returns
 returns c =
     (record { status = c.plain-status.result; text = c.text.result.now },
-    written spelled c.args.words c.in-Ok.words _ _ _ c.args.first.now c.args.second.now _ _ _ _
-    c.plain-status.result c.in-Ok.is (ap bytes_of c.deref.ensures.value) c.new.ensures.first
-    c.new.ensures.second c.new-sink.ensures (λ rose. omega (arith, rose))
+    written spelled c.args.words c.in-Ok.words _ _ _ c.args.first.now c.args.second.now _ _
+    c.text.result.now _ _ c.plain-status.result c.in-Ok.is (ap bytes_of c.deref.ensures.value) c.new.ensures.first
+    c.new.ensures.second c.new-sink.ensures c.text.ensures (λ rose. omega (arith, rose))
     c.if-status-eq-TOO_SHORT.false c.plain-status.ensures,
     c.give-2.ensures)
