@@ -29,7 +29,7 @@ use texts::{FIRST, SECOND};
 use words::{three, two, with_number, with_seed};
 
 /// The verdict on each table of a text of tables or of a setup.
-#[tactic(auto, using(crate::proofs::Asked::check_asked))]
+#[tactic(auto, using(crate::proofs::Asked::check_given))]
 #[unsafe(no_mangle)]
 pub extern "C" fn fb_check(alloc: Global, text: &[u8], buffer: &mut [u8], answer: &mut FbAnswer)
     ensures { Given (check (codes "first")) (files_of text.now []) buffer.new
@@ -39,7 +39,7 @@ pub extern "C" fn fb_check(alloc: Global, text: &[u8], buffer: &mut [u8], answer
 }
 
 /// The setup of a text, written again.
-#[tactic(auto, using(crate::proofs::Asked::show_asked))]
+#[tactic(auto, using(crate::proofs::Asked::show_given))]
 #[unsafe(no_mangle)]
 pub extern "C" fn fb_show(alloc: Global, setup: &[u8], buffer: &mut [u8], answer: &mut FbAnswer)
     ensures { Given (show (codes "first")) (files_of setup.now []) buffer.new
@@ -49,7 +49,7 @@ pub extern "C" fn fb_show(alloc: Global, setup: &[u8], buffer: &mut [u8], answer
 }
 
 /// The largest part of a table that is in the class.
-#[tactic(auto, using(crate::proofs::Asked::narrow_asked))]
+#[tactic(auto, using(crate::proofs::Asked::narrow_given))]
 #[unsafe(no_mangle)]
 pub extern "C" fn fb_narrow(alloc: Global, table: &[u8], buffer: &mut [u8], answer: &mut FbAnswer)
     ensures { Given (narrow (codes "first")) (files_of table.now []) buffer.new
@@ -59,7 +59,7 @@ pub extern "C" fn fb_narrow(alloc: Global, table: &[u8], buffer: &mut [u8], answ
 }
 
 /// The run of a setup by a schedule, and its ending.
-#[tactic(auto, using(crate::proofs::Asked::run_asked))]
+#[tactic(auto, using(crate::proofs::Asked::run_given))]
 #[unsafe(no_mangle)]
 pub extern "C" fn fb_run(
     alloc: Global,
@@ -75,7 +75,7 @@ pub extern "C" fn fb_run(
 }
 
 /// Whether a trace is that of a complete run of a setup, and its ending.
-#[tactic(auto, using(crate::proofs::Asked::replay_asked))]
+#[tactic(auto, using(crate::proofs::Asked::replay_given))]
 #[unsafe(no_mangle)]
 pub extern "C" fn fb_replay(
     alloc: Global,
@@ -91,7 +91,7 @@ pub extern "C" fn fb_replay(
 }
 
 /// What each board and memory did on the bus in a run by a schedule.
-#[tactic(auto, using(crate::proofs::Asked::traffic_asked))]
+#[tactic(auto, using(crate::proofs::Asked::traffic_given))]
 #[unsafe(no_mangle)]
 pub extern "C" fn fb_traffic(
     alloc: Global,
@@ -107,7 +107,7 @@ pub extern "C" fn fb_traffic(
 }
 
 /// The run of a setup by the schedule of a number, and its ending.
-#[tactic(auto, using(crate::proofs::Asked::run_seeded_asked))]
+#[tactic(auto, using(crate::proofs::Asked::run_seeded_given))]
 #[unsafe(no_mangle)]
 pub extern "C" fn fb_run_seeded(
     alloc: Global,
@@ -123,7 +123,7 @@ pub extern "C" fn fb_run_seeded(
 }
 
 /// What each board and memory did on the bus in a run by the schedule of a number.
-#[tactic(auto, using(crate::proofs::Asked::traffic_seeded_asked))]
+#[tactic(auto, using(crate::proofs::Asked::traffic_seeded_given))]
 #[unsafe(no_mangle)]
 pub extern "C" fn fb_traffic_seeded(
     alloc: Global,
@@ -139,7 +139,7 @@ pub extern "C" fn fb_traffic_seeded(
 }
 
 /// The generated setup of a number.
-#[tactic(auto, using(crate::proofs::Asked::make_asked))]
+#[tactic(auto, using(crate::proofs::Asked::make_given))]
 #[unsafe(no_mangle)]
 pub extern "C" fn fb_make(alloc: Global, seed: u64, buffer: &mut [u8], answer: &mut FbAnswer)
     ensures { Given (make seed) (files_of [] []) buffer.new answer.new.status
@@ -149,7 +149,7 @@ pub extern "C" fn fb_make(alloc: Global, seed: u64, buffer: &mut [u8], answer: &
 }
 
 /// The counts over the run of a generated setup.
-#[tactic(auto, using(crate::proofs::Asked::tally_asked))]
+#[tactic(auto, using(crate::proofs::Asked::tally_given))]
 #[unsafe(no_mangle)]
 pub extern "C" fn fb_tally(alloc: Global, seed: u64, buffer: &mut [u8], answer: &mut FbAnswer)
     ensures { Given (tally seed) (files_of [] []) buffer.new answer.new.status

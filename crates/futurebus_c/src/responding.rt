@@ -1,10 +1,9 @@
 //! A command over lent texts, and its text in the caller's buffer.
 
-ghost use Rattle.std.specs.Prelude.{◌≡◌, IfOk, length, map, nat_le, string_bytes, take};
-ghost use Rattle.fb_cli.specs.Command.{Command, found};
-ghost use Rattle.fb_cli.specs.Rows.{command_in, plain_rows};
+ghost use Rattle.std.specs.Prelude.{◌≡◌, ℕ, List, IfOk, map, string_bytes};
+ghost use Rattle.fb_cli.specs.Output.{Output};
 ghost use Rattle.futurebus_c.specs.Texts.{files_of};
-ghost use Rattle.futurebus_c.specs.Given.{Given};
+ghost use Rattle.futurebus_c.specs.Given.{Answered, Gives};
 
 use crate::answer::FbAnswer;
 use crate::collected::Collected;
@@ -23,10 +22,8 @@ const TOO_SHORT: u8 = 5;
 
 /// Copies a text into a buffer, as far as it has room.
 fn give(status: u8, text: &[u8], buffer: &mut [u8]) -> FbAnswer
-    ensures count { result.count ≡ length text.now }
-    ensures front { take (length text.now) buffer.new ≡ take (length buffer.new) text.now }
-    ensures status { result.status
-        ≡ (if nat_le (length text.now) (length buffer.new) then status else 5) }
+    ensures { Gives (record { status = status; text = text.now }) buffer.new result.status
+        result.count }
 {
     let count = text.len().min(buffer.len());
     buffer[..count].copy_from_slice(&text[..count]);
@@ -42,9 +39,8 @@ pub fn respond(
     second: &[u8],
     buffer: &mut [u8],
 ) -> FbAnswer
-    ensures { (command : Command)
-        → IfOk words (λ w. command_in plain_rows (map string_bytes w.items) ≡ found command)
-        → Given command (files_of first.now second.now) buffer.new result.status result.count }
+    ensures { (asked : List (List ℕ)) → IfOk words (λ w. map string_bytes w.items ≡ asked)
+        → Answered asked (files_of first.now second.now) buffer.new result.status result.count }
 {
     let Ok(words) = words else {
         return give(NO_MEMORY, NO_MEMORY_TEXT, buffer);
