@@ -32,7 +32,7 @@ given words command is files buffer status count a =
     record {
       output = a.output;
       ends = ends (command_in plain_rows words) command is files a.output a.ends;
-      given = a.given
+      given = a.given;
     }
 
 pub check_given :
@@ -86,24 +86,30 @@ pub make_given :
     (n : ℕ) → n < 2 ^ 64 → (files : Files) (buffer : List ℕ) (status count : ℕ)
     → Answered (codes "make" ∷ decimal n ∷ []) files buffer status count
     → Given (make n) files buffer status count
-make_given n small = given (codes "make" ∷ decimal n ∷ []) (make n)
+make_given n small =
+    given (codes "make" ∷ decimal n ∷ []) (make n)
     (read (seed_of (decimal n)) n (λ (x : ℕ). found (make x)) _ (seed_again n small))
 
 pub tally_given :
     (n : ℕ) → n < 2 ^ 64 → (files : Files) (buffer : List ℕ) (status count : ℕ)
     → Answered (codes "tally" ∷ decimal n ∷ []) files buffer status count
     → Given (tally n) files buffer status count
-tally_given n small = given (codes "tally" ∷ decimal n ∷ []) (tally n)
+tally_given n small =
+    given (codes "tally" ∷ decimal n ∷ []) (tally n)
     (read (seed_of (decimal n)) n (λ (x : ℕ). found (tally x)) _ (seed_again n small))
 
 pub run_seeded_given :
     (n : ℕ) → n < 2 ^ 64 → (files : Files) (buffer : List ℕ) (status count : ℕ)
     → Answered (codes "run" ∷ codes "first" ∷ codes "seed" ∷ decimal n ∷ []) files buffer status count
     → Given (run_seeded (codes "first") n) files buffer status count
-run_seeded_given n small = given (codes "run" ∷ codes "first" ∷ codes "seed" ∷ decimal n ∷ []) (run_seeded (codes "first") n) (rw (seed_again n small) refl)
+run_seeded_given n small =
+    given (codes "run" ∷ codes "first" ∷ codes "seed" ∷ decimal n ∷ [])
+    (run_seeded (codes "first") n) (rw (seed_again n small) refl)
 
 pub traffic_seeded_given :
     (n : ℕ) → n < 2 ^ 64 → (files : Files) (buffer : List ℕ) (status count : ℕ)
     → Answered (codes "traffic" ∷ codes "first" ∷ codes "seed" ∷ decimal n ∷ []) files buffer status count
     → Given (traffic_seeded (codes "first") n) files buffer status count
-traffic_seeded_given n small = given (codes "traffic" ∷ codes "first" ∷ codes "seed" ∷ decimal n ∷ []) (traffic_seeded (codes "first") n) (rw (seed_again n small) refl)
+traffic_seeded_given n small =
+    given (codes "traffic" ∷ codes "first" ∷ codes "seed" ∷ decimal n ∷ [])
+    (traffic_seeded (codes "first") n) (rw (seed_again n small) refl)

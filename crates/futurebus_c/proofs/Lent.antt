@@ -1,7 +1,7 @@
 -- What a command that was done over lent texts gives.
-use Rattle.std.proofs.Common.{◌≡◌, ◌⊎◌, inl, inr, ℕ, List, [], ◌∷◌, Option, Some, subst, sym}
+use Rattle.std.proofs.Common.{◌≡◌, inl, inr, ℕ, List, [], ◌∷◌, Option, Some, subst, sym}
 use Rattle.fb_cli.specs.declared.role.Role.{Role}
-use Rattle.fb_cli.specs.Command.{Command, Does, EndsAs, File, Found, IsUnread, none, found}
+use Rattle.fb_cli.specs.Command.{Does, EndsAs, File, Found, IsUnread, none, found}
 use Rattle.fb_cli.specs.Output.{Output, Files}
 use Rattle.fb_cli.specs.Rows.{command_in, plain_rows}
 use Rattle.futurebus_c.specs.Texts.{files_of}
@@ -41,9 +41,9 @@ whole_answered words asked is files A B never text status whole (o, does, inl (s
     record {
       output = o;
       ends = inl (subst (λ w. EndsAs (command_in plain_rows w) (Some files) ⊥ o) is
-        (ends (command_in plain_rows words) (Some files) A never o does));
+          (ends (command_in plain_rows words) (Some files) A never o does));
       given = subst (λ (p : Output). Gives p buffer told count)
-        (λ i. record { status = same i; text = taken i }) gives
+          (λ i. record { status = same i; text = taken i }) gives;
     }
 
 -- What `plain` did with words over two texts, from an empty sink, and a buffer that it was given in.
@@ -60,11 +60,11 @@ answered words asked is one other first second one_is other_is before after text
     does buffer told count gives =
     whole_answered words asked is (files_of first second) A B never text status whole
     (subst (λ t. Does (command_in plain_rows words) (Some (files_of first second)) A B (Some []) (Some t) status)
-      (sym text_is)
+    (sym text_is)
     (subst (λ b. Does (command_in plain_rows words) (Some (files_of first second)) A B (Some b) (Some after) status)
-      empty
+    empty
     (subst (λ f. Does (command_in plain_rows words) (Some (files_of f second)) A B (Some before) (Some after) status)
-      one_is
+    one_is
     (subst (λ s. Does (command_in plain_rows words) (Some (files_of one s)) A B (Some before) (Some after) status)
-      other_is does))))
+    other_is does))))
     buffer told count gives

@@ -1,5 +1,5 @@
 -- What a call gives its caller: an output of a command, in the caller's buffer.
-use Rattle.std.specs.Prelude.{◌≡◌, ◌⊎◌, ℕ, List, length, take, nat_le, Option, Some, codes, if◌then◌else◌}
+use Rattle.std.specs.Prelude.{◌≡◌, ◌⊎◌, ℕ, List, length, take, nat_le, Some, codes, if◌then◌else◌}
 use Rattle.fb_cli.specs.Command.{Command, Ends, EndsAs}
 use Rattle.fb_cli.specs.Output.{Output, Files, output}
 use Rattle.fb_cli.specs.Rows.{command_in, plain_rows}

@@ -67,15 +67,27 @@ fn tells_of_faults_and_of_short_buffers(rt: HostRuntime) -> Result<(), Fail> {
     let mut answer = none();
     let mut buffer = [0u8; 30];
     fb_replay(alloc, SETUP, b"raise 2\n", &mut buffer, &mut answer);
-    assert!(rt; gave(&answer, &buffer, 1, b"fault trace line 1 not-a-run\n"), "replay");
+    assert!(rt;
+        gave(&answer, &buffer, 1, b"fault trace line 1 not-a-run\n"),
+        "replay"
+    );
     fb_run(alloc, b"memory\n", b"", &mut buffer, &mut answer);
-    assert!(rt; gave(&answer, &buffer, 3, b"fault setup line 1 number\n"), "run");
+    assert!(rt;
+        gave(&answer, &buffer, 3, b"fault setup line 1 number\n"),
+        "run"
+    );
     fb_check(alloc, TABLE, &mut buffer[..19], &mut answer);
-    assert!(rt; gave(&answer, &buffer, 0, b"table un: accepted\n"), "a buffer that is full");
+    assert!(rt;
+        gave(&answer, &buffer, 0, b"table un: accepted\n"),
+        "a buffer that is full"
+    );
     fb_check(alloc, TABLE, &mut buffer[..5], &mut answer);
     assert!(rt; answer.status == 5 && answer.count == 19, "a short buffer");
     fb_make(alloc, 1, &mut buffer, &mut answer);
     assert!(rt; answer.status == 5 && answer.count > 1000000, "make");
-    assert!(rt; buffer.starts_with(b"memory 64\ntable cb\n"), "the front of a text");
+    assert!(rt;
+        buffer.starts_with(b"memory 64\ntable cb\n"),
+        "the front of a text"
+    );
     Ok(())
 }
