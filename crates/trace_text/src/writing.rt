@@ -32,6 +32,10 @@ fn digits(text: &mut Text, value: u64)
     requires { length (decimal value) ≤ text.old.spare }
     ensures appends { Appends text.old text.new (decimal value) (length (decimal value)) }
 {
+    if value < 10 {
+        text.byte(b'0' + value as u8);
+        return;
+    }
     let mut buffer = Buffer::new();
     text.push(buffer.format(value).as_bytes());
 }
