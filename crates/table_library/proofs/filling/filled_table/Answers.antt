@@ -1,9 +1,19 @@
+use Rattle.std.proofs.Common.{ap, ◌∙◌}
 use Rattle.moesi_state.specs.declared.State.TheVariants.{M}
 use Rattle.moesi_state.specs.States.{all_states}
-use Rattle.class_relation.specs.Tables.{empty_table}
+use Rattle.class_relation.specs.Tables.{Table, empty_table}
 use Rattle.table_library.specs.Filling.{filled}
 use Rattle.table_library.proofs.Filled.{states_step}
 use Rattle.table_library.proofs.filling.filled_table.Goals as goal
+
+pub loop-state-init : goal.loop-state-init
+loop-state-init g c = record {
+  left =
+      ap (λ (table : Table).
+      filled (g.C.Cells.locals c.args.cells.now) (g.C.Cells.answers c.args.cells.now) table all_states)
+      c.empty-table.ensures;
+  version = ap (λ (table : Table). table.version) c.empty-table.ensures ∙ c.requires.version;
+}
 
 pub loop-state-preserved : goal.loop-state-preserved
 loop-state-preserved g c = record {
