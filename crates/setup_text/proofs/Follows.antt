@@ -1,8 +1,9 @@
 -- The lines that can follow the lines of a setup in some text of the productions.
 use Rattle.std.proofs.Common.{◌≡◌, ℕ, ◌<◌, ◌⊎◌, inl, inr, Bool, false, not, ◌&&◌, List, [], ◌∷◌, ◌++◌, map, length, refl, sym, ap, subst, ◌∙◌, append_assoc, arith, true}
 use Rattle.std.specs.Prelude.{codes}
+use Rattle.std.specs.Str.{bytes_eq}
 use Rattle.std.specs.List.{AllByRecursion}
-use Rattle.std.proofs.lemmas.Bool.{and_from}
+use Rattle.std.proofs.lemmas.Bool.{and_from, false≢true}
 use Rattle.fb_text.specs.Lines.{is_empty}
 use Rattle.fb_text.specs.Places.{Words}
 use Rattle.fb_text.proofs.LineLaws.{HasNext, BeginsLine}
@@ -197,10 +198,10 @@ opening_word ([] ∷ rest) = []
 opening_word ((w ∷ ws) ∷ rest) = w
 
 no_board_table : ◌≡◌ {A = List ℕ} (codes "board") (codes "table") → ⊥
-no_board_table h = cc
+no_board_table h = false≢true (ap (λ (w : List ℕ). bytes_eq w (codes "table")) h)
 
 no_end_table : ◌≡◌ {A = List ℕ} (codes "end") (codes "table") → ⊥
-no_end_table h = cc
+no_end_table h = false≢true (ap (λ (w : List ℕ). bytes_eq w (codes "table")) h)
 
 no_head_boards : (ds : List BoardText) → NoHeadRow (boards_rows ds ++ (end_row ∷ []))
 no_head_boards [] name version rest e = no_end_table (ap opening_word e)
