@@ -27,6 +27,8 @@ STATES = ("M", "O", "E", "S", "I")
 ACCESSES = ("read", "write", "pass", "flush", "swap")
 # The accesses that give a word, and those that set one.
 GIVING, SETTING = ("read", "swap"), ("write", "swap")
+# The events of which a table of version 1 says nothing.
+SWAPS = ("swap", "usw")
 # The master signals CA, IM and BC of each bus event, and what its transfer is.
 EVENTS = {
     "rd": (1, 0, 0, "line read"),
@@ -93,8 +95,9 @@ def add_swaps(cells):
             cells[state, "usw"] = cells[state, "uwr"]
 
 
-def outside_tables(lines, tables):
-    """The lines that are of no table, one after another. The tables that stand between them are put into `tables`."""
+def outside_tables(lines, tables, adds=add_swaps):
+    """The lines that are of no table, one after another. The tables that stand between them are put into `tables`, those
+    of version 1 with what `adds` adds to them."""
     cells, is_older = None, False
     for words in lines:
         if cells is None:
@@ -105,7 +108,7 @@ def outside_tables(lines, tables):
                 yield words
         elif words == ["end"]:
             if is_older:
-                add_swaps(cells)
+                adds(cells)
             cells = None
         else:
             cells[words[0], words[1]] = " ".join(words[3:]).split(" | ")

@@ -500,6 +500,10 @@ older = record { version = inl refl; lines = tt }
 free_head : (front : Words) → bars front ≡ 0 → FreeFront BreaksCell [] front
 free_head front none = free_front [] front (few_total 16 front (omega (arith, none))) (λ a b more q has. has)
 
+-- what a head line may say after the word `2`
+abbrev nothing_more : Words → Result ℕ TableKind
+nothing_more ws = line_ends ws >>= λ _. Ok 2
+
 module _ (u : Unread) where
   abbrev FaultyHead : Words → ℕ → TableKind → Type 0
   FaultyHead ws n k = FaultBehind table_grammar [] (line_places u.line ws (lines_places u.lines u.end)) n k
@@ -527,7 +531,7 @@ module _ (u : Unread) where
       refl (no_number_but_two None (λ w h. cc)) (inl (refl, kind))
   number_stops (w ∷ ws) k e = go (bytes_eq w (codes "2")) refl e
     where
-      left : (ws : Words) → (line_ends ws >>= λ _. Ok 2) ≡ Err k
+      left : (ws : Words) → nothing_more ws ≡ Err k
           → FaultyHead (codes "version" ∷ codes "2" ∷ ws) u.line k
       left [] e = absurd cc
       left (x ∷ ws) e =
@@ -537,7 +541,7 @@ module _ (u : Unread) where
           (inr (λ h. no_number_yet [] (codes "version") h, kind))
 
       go : (b : Bool) → bytes_eq w (codes "2") ≡ b
-          → cond b (line_ends ws >>= λ _. Ok 2) (Err Number) ≡ Err k → FaultyHead (codes "version" ∷ w ∷ ws) u.line k
+          → cond b (nothing_more ws) (Err Number) ≡ Err k → FaultyHead (codes "version" ∷ w ∷ ws) u.line k
       go true h e =
           subst (λ (x : List ℕ). FaultyHead (codes "version" ∷ x ∷ ws) u.line k) (sym (is_word w (codes "2") h))
           (left ws e)
