@@ -1,5 +1,5 @@
 -- Why no machine is made of a setup.
-use Rattle.std.specs.Prelude.{◌≡◌, ℕ, ◌<◌, List, [], length, map, slice_index_or}
+use Rattle.std.specs.Prelude.{◌≡◌, ℕ, ◌<◌, List, length, map, slice_index_or}
 use Rattle.bus_signals.specs.declared.Access.{Access}
 use Rattle.class_relation.specs.Tables.{Table, no_table}
 use Rattle.table_check.specs.declared.verdict.CellFault.{CellFault}
