@@ -1,7 +1,9 @@
 -- The lines that can follow the lines of a setup in some text of the productions.
 use Rattle.std.proofs.Common.{◌≡◌, ℕ, ◌<◌, ◌⊎◌, inl, inr, Bool, false, not, ◌&&◌, List, [], ◌∷◌, ◌++◌, map, length, refl, sym, ap, subst, ◌∙◌, append_assoc, arith, true}
+use Rattle.std.specs.Prelude.{codes}
+use Rattle.std.specs.Str.{bytes_eq}
 use Rattle.std.specs.List.{AllByRecursion}
-use Rattle.std.proofs.lemmas.Bool.{and_from}
+use Rattle.std.proofs.lemmas.Bool.{and_from, false≢true}
 use Rattle.fb_text.specs.Lines.{is_empty}
 use Rattle.fb_text.specs.Places.{Words}
 use Rattle.fb_text.proofs.LineLaws.{HasNext, BeginsLine}
@@ -189,9 +191,21 @@ no_word_boards : (ds : List BoardText) → NoWordRow (boards_rows ds ++ (end_row
 no_word_boards [] w rest e = cc
 no_word_boards (d ∷ ds) w rest e = cc
 
+-- the first word of the first of some lines
+abbrev opening_word : List Words → List ℕ
+opening_word [] = []
+opening_word ([] ∷ rest) = []
+opening_word ((w ∷ ws) ∷ rest) = w
+
+no_board_table : ◌≡◌ {A = List ℕ} (codes "board") (codes "table") → ⊥
+no_board_table h = false≢true (ap (λ (w : List ℕ). bytes_eq w (codes "table")) h)
+
+no_end_table : ◌≡◌ {A = List ℕ} (codes "end") (codes "table") → ⊥
+no_end_table h = false≢true (ap (λ (w : List ℕ). bytes_eq w (codes "table")) h)
+
 no_head_boards : (ds : List BoardText) → NoHeadRow (boards_rows ds ++ (end_row ∷ []))
-no_head_boards [] name version rest e = cc
-no_head_boards (d ∷ ds) name version rest e = cc
+no_head_boards [] name version rest e = no_end_table (ap opening_word e)
+no_head_boards (d ∷ ds) name version rest e = no_board_table (ap opening_word e)
 
 no_word_tables :
     (us : List TableText) (ds : List BoardText) → NoWordRow (tables_rows us ++ (boards_rows ds ++ (end_row ∷ [])))
@@ -287,7 +301,7 @@ follows s r l others fits e = there (behind s r (l ∷ others) fits e)
     tables (u ∷ us) ds fu fd [] same e =
         let fit = fu.0 in let here : l ≡ head_row u.name u.version = cc in
         head u.name u.version fit.name fit.version here same
-    tables (u ∷ us) ds fu fd (b ∷ bs) same e = absurd cc
+    tables (u ∷ us) ds fu fd (b ∷ bs) same e = absurd (no_board_table (ap opening_word e))
 
     no_words :
         (vs : List (ℕ × ℕ)) (us : List TableText) (ds : List BoardText) → AllByRecursion WordFits vs

@@ -22,8 +22,9 @@ use Rattle.setup_text.specs.Spelling.{head_row}
 use Rattle.setup_text.specs.Values.{names_of}
 use Rattle.setup_text.specs.Grammars.{UnfitText, JudgedTableWord, JudgedName}
 use Rattle.setup_text.specs.Drafts.{named, found_name}
-use Rattle.setup_text.specs.Reading.{name_at, new_name, as_setup_kind, head_name, head_line}
+use Rattle.setup_text.specs.Reading.{name_at, new_name, with_version, head_name, head_line}
 use Rattle.setup_text.proofs.Naming.{found_new}
+use Rattle.setup_text.proofs.LineSteps.{head_with}
 use Rattle.setup_text.proofs.LineWords.{is_word, name_read}
 
 -- ---- names among tables
@@ -155,16 +156,22 @@ module _ {T : Type 0} (g : Grammar T SetupKind) (lines : T → List Words)
     older_free :
         (name : List ℕ) → length tables < 16 → found_name (map named tables) name ≡ None
         → FreeFront J done (head_row name 1)
-    older_free name few new [] w q e k j = not_first w k few cc j
-    older_free name few new (x ∷ []) w q e k j = not_name name x w k new cc cc j
+    older_free name few new [] w q e k j = let first : codes "table" ≡ w = cc in not_first w k few first j
+    older_free name few new (x ∷ []) w q e k j =
+        let first : codes "table" ≡ x = cc in
+        let second : name ≡ w = cc in
+        not_name name x w k new first second j
     older_free name few new (x ∷ y ∷ []) w q e k j = cc
     older_free name few new (x ∷ y ∷ z ∷ p) w q e k j = cc
 
     newer_free :
         (name : List ℕ) → length tables < 16 → found_name (map named tables) name ≡ None
         → FreeFront J done (head_row name 2)
-    newer_free name few new [] w q e k j = not_first w k few cc j
-    newer_free name few new (x ∷ []) w q e k j = not_name name x w k new cc cc j
+    newer_free name few new [] w q e k j = let first : codes "table" ≡ w = cc in not_first w k few first j
+    newer_free name few new (x ∷ []) w q e k j =
+        let first : codes "table" ≡ x = cc in
+        let second : name ≡ w = cc in
+        not_name name x w k new first second j
     newer_free name few new (x ∷ y ∷ []) w q e k j =
         let first : codes "table" ≡ x = cc in
         later_broken y w k (subst (λ (u : List ℕ). J done (u ∷ y ∷ []) w k) (sym first) j)
@@ -345,29 +352,26 @@ module _ {T : Type 0} (g : Grammar T SetupKind) (lines : T → List Words)
       -- where what stands after the name is refused
       version_stops :
           (n : ℕ) (l : Words) (rest : List Place) (k : SetupKind)
-          → (as_setup_kind (version_at l) >>= λ version. Ok (name, version)) ≡ Err k
+          → with_version name (version_at l) ≡ Err k
           → FaultBehind g done (line_places n (codes "table" ∷ name ∷ l) rest) n k
       version_stops n [] rest k e = absurd cc
       version_stops n (w ∷ l) rest k e = first (bytes_eq w (codes "version")) refl e
         where
-          after : Result ℕ TableKind → Result (List ℕ × ℕ) SetupKind
-          after x = as_setup_kind x >>= λ version. Ok (name, version)
-
           ends :
-              (l : Words) → after (TableReading.line_ends l >>= λ _. Ok 2) ≡ Err k
+              (l : Words) → with_version name (TableReading.line_ends l >>= λ _. Ok 2) ≡ Err k
               → FaultBehind g done (line_places n (codes "table" ∷ name ∷ codes "version" ∷ codes "2" ∷ l) rest) n k
           ends [] e = absurd cc
           ends (v ∷ l) e = left_over n v l rest k cc
 
           number :
-              (l : Words) → after (version_number l) ≡ Err k
+              (l : Words) → with_version name (version_number l) ≡ Err k
               → FaultBehind g done (line_places n (codes "table" ∷ name ∷ codes "version" ∷ l) rest) n k
           number [] e = no_number n rest k cc
           number (v ∷ l) e = second (bytes_eq v (codes "2")) refl e
             where
               second :
                   (b : Bool) → bytes_eq v (codes "2") ≡ b
-                  → after (cond b (TableReading.line_ends l >>= λ _. Ok 2) (Err table_kinds.Number)) ≡ Err k
+                  → with_version name (cond b (TableReading.line_ends l >>= λ _. Ok 2) (Err table_kinds.Number)) ≡ Err k
                   → FaultBehind g done (line_places n (codes "table" ∷ name ∷ codes "version" ∷ v ∷ l) rest) n k
               second true h e =
                   subst
@@ -378,7 +382,7 @@ module _ {T : Type 0} (g : Grammar T SetupKind) (lines : T → List Words)
 
           first :
               (b : Bool) → bytes_eq w (codes "version") ≡ b
-              → after (cond b (version_number l) (Err table_kinds.UnknownWord)) ≡ Err k
+              → with_version name (cond b (version_number l) (Err table_kinds.UnknownWord)) ≡ Err k
               → FaultBehind g done (line_places n (codes "table" ∷ name ∷ w ∷ l) rest) n k
           first true h e =
               subst (λ (x : List ℕ). FaultBehind g done (line_places n (codes "table" ∷ name ∷ x ∷ l) rest) n k)
@@ -395,7 +399,7 @@ module _ {T : Type 0} (g : Grammar T SetupKind) (lines : T → List Words)
         fresh :
             (w : List ℕ) (us : Words) → length tables < 16 → is_name w ≡ true → (o : Option (ℕ × Bool))
             → found_name (map named tables) w ≡ o
-            → (new_name tables (w, us) >>= λ n. as_setup_kind (version_at n.1) >>= λ version. Ok (n.0, version)) ≡ Err k
+            → head_with (new_name tables (w, us)) ≡ Err k
             → FaultBehind g done (line_places n (codes "table" ∷ w ∷ us) rest) n k
         fresh w us few is (Some p) h e =
             (let both : ◌≡◌ {A = Result (List ℕ × ℕ) SetupKind} (Err TwiceName) (Err k) = rw h at e in
@@ -404,7 +408,7 @@ module _ {T : Type 0} (g : Grammar T SetupKind) (lines : T → List Words)
 
         name :
             (x : Result (List ℕ × Words) SetupKind) → length tables < 16 → name_at l ≡ x
-            → ((x >>= new_name tables) >>= λ n. as_setup_kind (version_at n.1) >>= λ version. Ok (n.0, version)) ≡ Err k
+            → head_with (x >>= new_name tables) ≡ Err k
             → FaultBehind g done (line_places n (codes "table" ∷ l) rest) n k
         name (Err j) few h e = let same : j ≡ k = cc in no_name n l rest k few (h ∙ ap (λ (x : SetupKind). Err x) same)
         name (Ok (w, us)) few h e =
@@ -414,8 +418,7 @@ module _ {T : Type 0} (g : Grammar T SetupKind) (lines : T → List Words)
 
         room :
             (b : Bool) → ltb (length tables) 16 ≡ b
-            → (cond b (name_at l >>= new_name tables) (Err (Limit Tables 17)) >>=
-            λ n. as_setup_kind (version_at n.1) >>= λ version. Ok (n.0, version)) ≡ Err k
+            → head_with (cond b (name_at l >>= new_name tables) (Err (Limit Tables 17))) ≡ Err k
             → FaultBehind g done (line_places n (codes "table" ∷ l) rest) n k
         room true h e = name (name_at l) (ltb-true (length tables) 16 h) refl e
         room false h e = full h cc

@@ -15,7 +15,7 @@ use Rattle.setup_text.specs.declared.fault.SetupFault.TheVariants as faults
 use Rattle.setup_text.specs.declared.fault.SetupKind.{SetupKind}
 use Rattle.setup_text.specs.declared.fault.SetupKind.TheVariants.{UnknownWord, NoEnd}
 use Rattle.setup_text.specs.Drafts.{with_table}
-use Rattle.setup_text.specs.Reading.{Mode, start, body, in_table, ended, BookMode, Fault, Gives, Fails, FailsAs, Answers, GoesOn, on_line, then_lines, this_word, head_name, head_line, line_ends, table_head, book_head, whole_table, as_setup_fault, first_line, body_line, line_at, lines_at, text_ends, book_line, book_lines, book_ends, place_in, places_on, schedule_lines, as_setup_kind, after_table_line, after_book_line, mode_after}
+use Rattle.setup_text.specs.Reading.{Mode, start, body, in_table, ended, BookMode, Fault, Gives, Fails, FailsAs, Answers, GoesOn, on_line, then_lines, this_word, head_name, head_line, with_version, line_ends, table_head, book_head, whole_table, as_setup_fault, first_line, body_line, line_at, lines_at, text_ends, book_line, book_lines, book_ends, place_in, places_on, schedule_lines, as_setup_kind, after_table_line, after_book_line, mode_after}
 use Rattle.setup_text.proofs.TableLines.{through_lines}
 
 abbrev at : ℕ → Words → List Line → ℕ → Unread
@@ -133,6 +133,10 @@ book_none m n ws (l ∷ ls) end h = absurd cc
 
 -- ---- a table in a text
 
+-- the name and the version of a table, from its name and the words after it
+abbrev pub head_with : Result (List ℕ × Words) SetupKind → Result (List ℕ × ℕ) SetupKind
+head_with x = x >>= λ n. with_version n.0 (version_at n.1)
+
 -- what follows a table that was read
 module _ {M R : Type 0} (lines : M → List Line → ℕ → Result R Fault) (within whole : Table → M)
     (none : (t : Table) (end : ℕ) → lines (within t) [] end ≡ Err (record { line = end; kind = NoEnd }))
@@ -149,8 +153,7 @@ module _ {M R : Type 0} (lines : M → List Line → ℕ → Result R Fault) (wi
     where
       rest :
           (name : List ℕ) (x : Result ℕ TableKind)
-          → then_lines lines u
-          ((as_setup_kind x >>= λ version. Ok (name, version)) >>= λ x. Ok (within (empty_table x.0 x.1)))
+          → then_lines lines u (with_version name x >>= λ x. Ok (within (empty_table x.0 x.1)))
           ≡ (as_setup_fault ((TableReading.on_line u.line x) >>=
           λ version. table_lines (empty_table name version) u.lines u.end) >>=
           λ r. lines (whole r.0) r.1.lines r.1.end)
@@ -160,8 +163,7 @@ module _ {M R : Type 0} (lines : M → List Line → ℕ → Result R Fault) (wi
 
       go :
           (x : Result (List ℕ × Words) SetupKind)
-          → then_lines lines u ((x >>= λ n. as_setup_kind (version_at n.1) >>= λ version. Ok (n.0, version)) >>=
-          λ x. Ok (within (empty_table x.0 x.1)))
+          → then_lines lines u (head_with x >>= λ x. Ok (within (empty_table x.0 x.1)))
           ≡ ((on_line u.line x >>= λ n. as_setup_fault (table_at n.0 (record u { words = n.1 }))) >>=
           λ r. lines (whole r.0) r.1.lines r.1.end)
       go (Err k) = refl

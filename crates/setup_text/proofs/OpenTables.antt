@@ -45,21 +45,21 @@ abbrev rows : ℕ → List CellLine → List Words
 rows version cells = version_words version ∷ map cell_words cells
 
 marks_all :
-    {v : ℕ} (t : Table) (done : List Words) (cells : List CellLine) → HasAllCells t → Marks t done
+    (v : ℕ) (t : Table) (done : List Words) (cells : List CellLine) → HasAllCells t → Marks t done
     → AllByRecursion (IsLineOf v) cells → Marks (all_entered t cells) (done ++ map cell_words cells)
-marks_all {v} t done [] whole m lines = subst (λ (x : List Words). Marks t x) (sym (append-nil done)) m
-marks_all {v} t done (c ∷ cells) whole m lines =
+marks_all v t done [] whole m lines = subst (λ (x : List Words). Marks t x) (sym (append-nil done)) m
+marks_all v t done (c ∷ cells) whole m lines =
     subst (λ (x : List Words). Marks (all_entered (entered t c) cells) x)
     (append_assoc done (cell_words c ∷ []) (map cell_words cells))
     (let first = lines.0 in
-    marks_all {v} (entered t c) (done ++ cell_words c ∷ []) cells (entered_whole t c whole)
+    marks_all v (entered t c) (done ++ cell_words c ∷ []) cells (entered_whole t c whole)
     (marks_push t done c whole m first.some) lines.1)
 
 pub marks_of :
     (t : TableText) → IsVersion t.version → AllByRecursion (IsLineOf t.version) t.cells
     → Marks (spelled_table t) (rows t.version t.cells)
 marks_of t known lines =
-    marks_all (empty_table t.name t.version) (version_words t.version ∷ []) t.cells (empty_whole t.name t.version)
+    marks_all t.version (empty_table t.name t.version) (version_words t.version ∷ []) t.cells (empty_whole t.name t.version)
     (marks_empty t.name t.version known) lines
 
 -- the rest of the head line names no cell
@@ -152,7 +152,7 @@ module _ {T : Type 0} (g : Grammar T SetupKind) (lines : T → List Words)
   closed : IsClosing (text_end ∷ [])
   closed = inr refl
 
-  Rows : List Words
+  abbrev Rows : List Words
   Rows = rows t.version t.cells
 
   marks : Marks (spelled_table t) Rows

@@ -360,7 +360,7 @@ one_stands ts more t are fits cells =
     differs k d low h same =
         h (ap (λ (x : Table). x.name) (get_or_append_left ts (spelled_table t ∷ more) d k low)
         ∙ (same
-        ∙ (sym (table_name t.name t.cells)
+        ∙ (sym (table_name t)
         ∙ ap (λ (x : Table). x.name) (sym (at ts (spelled_table t) d more)))))
 
 tables_run :

@@ -244,11 +244,14 @@ abbrev pub as_setup_kind : {X : Type 0} → Result X TableKind → Result X Setu
 as_setup_kind (Ok x) = Ok x
 as_setup_kind (Err kind) = Err (kind_of kind)
 
+-- A name with the version that was read after it.
+abbrev pub with_version : List ℕ → Result ℕ TableKind → Result (List ℕ × ℕ) SetupKind
+with_version name version = as_setup_kind version >>= λ v. Ok (name, v)
+
 -- The name and the version of one more table, after the word `table`.
 abbrev pub head_line : List Table → Words → Result (List ℕ × ℕ) SetupKind
 head_line tables ws =
-    head_name tables ws >>=
-    λ n. as_setup_kind (version_at n.1) >>= λ version. Ok (n.0, version)
+    head_name tables ws >>= λ n. with_version n.0 (version_at n.1)
 
 abbrev pub table_head : Setup → Words → Result Mode SetupKind
 table_head setup ws =
