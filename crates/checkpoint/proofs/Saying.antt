@@ -25,7 +25,7 @@ use Rattle.checkpoint.specs.StateText.{state_lines}
 use Rattle.checkpoint.specs.Checkpoints.{Accepts, AreCheckpoint, Says, event_texts}
 use Rattle.checkpoint.specs.Restoring.{by_event, by_step, compared, gone_on, is_line, is_turns, restored, told_turns}
 
-ok_same : {X E : Type 0} (a b : X) → Ok {E = E} a ≡ Ok b → a ≡ b
+ok_same : (a b : Machine) → ◌≡◌ {A = Result Machine RestoreFault} (Ok a) (Ok b) → a ≡ b
 ok_same a b e = cc
 
 -- ---- the lines of a configuration
