@@ -7,3 +7,5 @@ pub mod Taking
 pub mod Telling
 pub mod Spelling
 pub mod Saying
+pub mod Worded
+pub mod Same

@@ -4,3 +4,4 @@ pub mod Restoring
 pub mod Restore
 pub mod Stages
 pub mod Checkpoints
+pub mod SameText

@@ -21,6 +21,7 @@ mod drawing;
 mod fault;
 mod item;
 mod kept;
+mod laws;
 mod line;
 mod lines;
 mod mark;
@@ -34,5 +35,6 @@ mod turns;
 mod writing;
 
 pub use fault::RestoreFault;
+pub use laws::state_texts_tell;
 pub use lines::StateLines;
 pub use restore::Restore;
