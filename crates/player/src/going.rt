@@ -1,11 +1,11 @@
 //! Schedules that stop after some events, and machines that go on.
 
-ghost use Rattle.std.specs.Prelude.{◌≡◌, ◌≤◌, ◌<◌, ◌^◌, length, take};
+ghost use Rattle.std.specs.Prelude.{◌≡◌, ◌<◌, ◌-◌, take};
 ghost use Rattle.std.specs.List.{AllByRecursion};
 ghost use Rattle.bus_model.specs.Runs.{Complete};
 ghost use Rattle.backplane.specs.Machine.{configuration, IsBoard};
-ghost use Rattle.backplane.specs.Moves.{after_turns};
-ghost use Rattle.player.specs.Going.{RunsGoOn, turns_until, with_rounds};
+ghost use Rattle.backplane.specs.Moves.{after_turns, events_told};
+ghost use Rattle.player.specs.GoingOn.{RunsGoOn, turns_until, with_rounds};
 
 use crate::{finish, take_turns};
 use backplane::{Machine, Moved};
@@ -28,6 +28,17 @@ pub fn play_on(machine: &mut Machine, schedule: &[u8])
     finish(machine);
 }
 
+/// How many events are left after a turn.
+fn left_after(left: u32, moved: Moved) -> u32
+    requires { 0 < left }
+    ensures { result ≡ left - events_told moved }
+{
+    match moved {
+        Moved::Did => left - 1,
+        Moved::Waits(_) | Moved::Finished => left,
+    }
+}
+
 /// Each board of a schedule has its turn, until there are so many events or no turn is left. It
 /// answers how many turns were made.
 pub fn play_until(machine: &mut Machine, schedule: &[u8], events: u32) -> usize
@@ -41,9 +52,7 @@ pub fn play_until(machine: &mut Machine, schedule: &[u8], events: u32) -> usize
         if left == 0 {
             return made;
         }
-        if let Moved::Did = machine.advance(BoardNo(*turn)) {
-            left -= 1;
-        }
+        left = left_after(left, machine.advance(BoardNo(*turn)));
     }
     schedule.len()
 }

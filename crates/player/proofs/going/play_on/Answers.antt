@@ -1,6 +1,6 @@
 use Rattle.std.proofs.Common.{arith, ◌*◌}
 use Rattle.bus_model.specs.Setup.{access_count}
-use Rattle.player.proofs.Going.{on}
+use Rattle.player.proofs.Onward.{on}
 use Rattle.player.proofs.going.play_on.Goals as goal
 
 pub returns-clause-machine : goal.returns-clause-machine

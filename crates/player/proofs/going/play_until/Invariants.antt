@@ -2,7 +2,7 @@ use Rattle.std.proofs.Common.{◌≡◌, ◌+◌, drop, take}
 use Rattle.std.specs.List.{AllByRecursion}
 use Rattle.backplane.specs.Machine.{IsBoard, configuration}
 use Rattle.backplane.specs.Moves.{after_turns}
-use Rattle.player.specs.Going.{turns_until}
+use Rattle.player.specs.GoingOn.{turns_until}
 use Rattle.player.proofs.going.play_until.Given as goal
 
 abbrev pub invariant-loop-made : goal.invariant-loop-made

@@ -1,4 +1,4 @@
-use Rattle.player.proofs.Going.{runs_go_on}
+use Rattle.player.proofs.Onward.{runs_go_on}
 use Rattle.player.proofs.going.runs_go_on.Goals as goal
 
 pub returns : goal.returns

@@ -1,5 +1,5 @@
 -- Runs that stop after some turns, and go on.
-use Rattle.std.proofs.Common.{◌≡◌, ℕ, zero, suc, ◌*◌, List, [], ◌∷◌, ◌++◌, drop, take, refl, sym, ap, ◌∙◌, append_assoc}
+use Rattle.std.proofs.Common.{◌≡◌, ℕ, zero, suc, ◌+◌, ◌-◌, ◌*◌, arith, ◌<◌, ◌≤◌, List, [], ◌∷◌, ◌++◌, drop, take, get_or, length, refl, sym, ap, ◌∙◌, append_assoc}
 use Rattle.bus_model.specs.Places.{repeated}
 use Rattle.bus_model.specs.Setup.{Setup, access_count, board_places}
 use Rattle.bus_model.specs.Configuration.{Configuration, opening}
@@ -10,9 +10,9 @@ use Rattle.bus_model.specs.Turns.{Turn, Did, Waits, Finished, events_of_turns}
 use Rattle.coherence.proofs.Rounds.{turns-append}
 use Rattle.backplane.specs.declared.moved.Moved.{Moved}
 use Rattle.backplane.specs.Machine.{Machine, configuration}
-use Rattle.backplane.specs.Moves.{after_turns, moved, told, turn_of}
+use Rattle.backplane.specs.Moves.{after_turns, events_told, moved, told, turn_of}
 use Rattle.backplane.proofs.Turning.{more_turns}
-use Rattle.player.specs.Going.{RunsGoOn, turns_until, with_rounds}
+use Rattle.player.specs.GoingOn.{RunsGoOn, turns_until, with_rounds}
 
 take_drop : (n : ℕ) (xs : List ℕ) → take n xs ++ drop n xs ≡ xs
 take_drop zero xs = refl
@@ -88,3 +88,76 @@ turn_waits now next board left boards not is = go (turn_of now board) not is
         ap (λ (m : Machine). suc (turns_until now.setup (configuration m) (suc left) boards)) (sym e)
     go Finished n e =
         ap (λ (m : Machine). suc (turns_until now.setup (configuration m) (suc left) boards)) (sym e)
+
+moved_setup : (now : Machine) (t : Turn) → (moved now t).setup ≡ now.setup
+moved_setup now (Did event) = refl
+moved_setup now (Waits why) = refl
+moved_setup now Finished = refl
+
+-- The turns that are made in all, after one more turn.
+module _
+    (now next : Machine) (made total board : ℕ) (front rest : List ℕ) (first : front ≡ board ∷ rest)
+    (is : next ≡ moved now (turn_of now board))
+  where
+    setup_same : next.setup ≡ now.setup
+    setup_same = ap (λ (m : Machine). m.setup) is ∙ moved_setup now (turn_of now board)
+
+    pub did_more :
+        (left : ℕ) → (left ≡ 0 → ⊥) → Moved.Did ≡ told (turn_of now board)
+        → made + turns_until now.setup (configuration now) left front ≡ total
+        → (made + 1) + turns_until next.setup (configuration next) (left - 1) rest ≡ total
+    did_more zero some did e = absurd (some refl)
+    did_more (suc left) some did e =
+        let less : suc left - 1 ≡ left = omega arith in
+        let one = ap (turns_until now.setup (configuration now) (suc left)) first
+        ∙ turn_did now next board left rest did is in
+        let same = ap (λ (s : Setup). turns_until s (configuration next) left rest) setup_same in
+        rw less (omega (arith, e, one, same))
+
+    pub waits_more :
+        (left : ℕ) → (left ≡ 0 → ⊥) → ((told (turn_of now board) ≡ Moved.Did) → ⊥)
+        → made + turns_until now.setup (configuration now) left front ≡ total
+        → (made + 1) + turns_until next.setup (configuration next) left rest ≡ total
+    waits_more zero some waits e = absurd (some refl)
+    waits_more (suc left) some waits e =
+        let one = ap (turns_until now.setup (configuration now) (suc left)) first
+        ∙ turn_waits now next board left rest waits is in
+        let same = ap (λ (s : Setup). turns_until s (configuration next) (suc left) rest) setup_same in
+        omega (arith, e, one, same)
+
+    -- The same, with the events that are left after the turn.
+    pub one_more_turn :
+        (left after_it : ℕ) → (left ≡ 0 → ⊥) → after_it ≡ left - events_told (told (turn_of now board))
+        → made + turns_until now.setup (configuration now) left front ≡ total
+        → (made + 1) + turns_until next.setup (configuration next) after_it rest ≡ total
+    one_more_turn left after_it some left_is e = go (told (turn_of now board)) refl left_is
+      where
+        go :
+            (m : Moved) → told (turn_of now board) ≡ m → after_it ≡ left - events_told m
+            → (made + 1) + turns_until next.setup (configuration next) after_it rest ≡ total
+        go Moved.Did d l = rw l (did_more left some (sym d) e)
+        go (Moved.Waits why) d l =
+            let same : left - 0 ≡ left = omega arith in
+            rw (l ∙ same) (waits_more left some (λ k. let f : ⊥ = let g = sym d ∙ k in cc in f) e)
+        go Moved.Finished d l =
+            let same : left - 0 ≡ left = omega arith in
+            rw (l ∙ same) (waits_more left some (λ k. let f : ⊥ = let g = sym d ∙ k in cc in f) e)
+
+pub drop_at : (i : ℕ) (xs : List ℕ) → i < length xs → drop i xs ≡ get_or xs i 0 ∷ drop (i + 1) xs
+drop_at i [] within = absurd (omega (arith, within))
+drop_at zero (x ∷ xs) within = refl
+drop_at (suc i) (x ∷ xs) within =
+    let next : suc i + 1 ≡ suc (i + 1) = omega arith in rw next (drop_at i xs (omega (arith, within)))
+
+drop_past : (i : ℕ) (xs : List ℕ) → length xs ≤ i → drop i xs ≡ []
+drop_past zero [] past = refl
+drop_past (suc i) [] past = refl
+drop_past zero (x ∷ xs) past = absurd (omega (arith, past))
+drop_past (suc i) (x ∷ xs) past = drop_past i xs (omega (arith, past))
+
+-- No turn is left.
+pub none_made :
+    (setup : Setup) (c : Configuration) (left i : ℕ) (xs : List ℕ) → length xs ≤ i
+    → turns_until setup c left (drop i xs) ≡ 0
+none_made setup c zero i xs past = refl
+none_made setup c (suc left) i xs past = rw (drop_past i xs past) refl
