@@ -1,4 +1,4 @@
--- The tally of a run: how often each bus event was connected, and the sum of the replies of reads.
+-- The tally of a run: how often each bus event was connected, and the sum of the replies.
 use Rattle.std.specs.Prelude.{ℕ, suc, Bool, false, List, [], ◌∷◌, ◌++◌, Option, Some, None, length, map, codes, decimal, unwrap_or, slice_set, slice_index}
 use Rattle.std.specs.List.{flat_map, sum_by}
 use Rattle.fb_text.specs.Written.{line_bytes}
