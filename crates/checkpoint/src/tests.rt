@@ -1,6 +1,6 @@
 //! A machine within a transaction, its state text, and checkpoints that are restored or refused.
 
-ghost use Rattle.std.specs.Prelude.{◌≡◌, [], IfOk};
+ghost use Rattle.std.specs.Prelude.{◌≡◌, ◌<◌, [], IfOk};
 
 use super::*;
 use backplane::{Machine, assemble};
