@@ -23,8 +23,8 @@ loop-made-preserved c =
       boards = others (IsBoard m) turns at c.loop-made-test.true i.boards;
       turns =
           one_more_turn c.loop-made.machine c.advance.new.self at _ board (drop at turns) (drop (at + 1) turns)
-          (drop_at at turns c.loop-made-test.true) c.advance.ensures.machine c.loop-made.left c.left_after.result
-          c.if-left-eq0.false c.left_after.ensures i.turns;
+          (drop_at at turns c.loop-made-test.true) c.advance.ensures.machine c.loop-made.left c.left_after-left.result
+          c.if-left-eq0.false c.left_after-left.ensures i.turns;
     }
 
 pub returns-clause-turns : goal.returns-clause-turns
