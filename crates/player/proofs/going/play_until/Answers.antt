@@ -1,7 +1,8 @@
-use Rattle.std.proofs.Common.{List, ap, arith, drop, get_or, length, sym, take, ℕ, ◌∙◌, ◌+◌}
+use Rattle.std.proofs.Common.{List, ap, arith, drop, get_or, length, sym, take, ℕ, ◌∙◌, ◌+◌, ◌-◌}
 use Rattle.std.proofs.lemmas.List.{take_more}
 use Rattle.backplane.specs.Machine.{IsBoard, Machine, configuration}
-use Rattle.backplane.specs.Moves.{after_turns, moved, turn_of}
+use Rattle.backplane.specs.Moves.{after_turns, events_told, moved, turn_of}
+use Rattle.backplane.specs.declared.moved.Moved.{Moved}
 use Rattle.backplane.proofs.Turning.{next_turn}
 use Rattle.player.proofs.Onward.{drop_at, none_made, one_more_turn}
 use Rattle.player.proofs.Playing.{others}
@@ -24,7 +25,8 @@ loop-made-preserved c =
       turns =
           one_more_turn c.loop-made.machine c.advance.new.self at _ board (drop at turns) (drop (at + 1) turns)
           (drop_at at turns c.loop-made-test.true) c.advance.ensures.machine c.loop-made.left c.left_after-left.result
-          c.if-left-eq0.false c.left_after-left.ensures i.turns;
+          c.if-left-eq0.false (c.left_after-left.ensures
+          ∙ ap (λ (m : Moved). c.loop-made.left - events_told m) c.advance.ensures.told) i.turns;
     }
 
 pub returns-clause-turns : goal.returns-clause-turns
