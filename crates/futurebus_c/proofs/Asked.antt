@@ -21,7 +21,6 @@ use Rattle.fb_cli.specs.Run.{run, run_seeded}
 use Rattle.fb_cli.specs.Show.{show}
 use Rattle.fb_cli.specs.Traffic.{traffic, traffic_seeded}
 
-
 -- The digits of a number of 64 bits are read as the number.
 seed_again : (n : ℕ) → n < 2 ^ 64 → seed_of (decimal n) ≡ Some n
 seed_again n small =
@@ -44,7 +43,7 @@ pub given :
     → command_in plain_rows line ≡ found command → IfOk words (λ w. spelled w ≡ line)
     → ((output : Output) × Answers spelled words files output × Gave output buffer status count)
     → Given command files buffer status count
-given spelled words line command files buffer status count asks is (o , answers , gave) =
+given spelled words line command files buffer status count asks is (o, answers, gave) =
     (o, given_by spelled words line command files o asks is answers, gave)
 
 -- A row that read its words finds its command.
@@ -103,10 +102,10 @@ whole :
     (asked : Found) (files : Files) (A B : Type 0) (text : List ℕ) (status : ℕ) → (A → ⊥) → (status ≡ 5 → ⊥)
     → Does asked (Some files) A B (Some []) (Some text) status
     → EndsAs asked (Some files) ⊥ (record { status = status; text = text })
-whole asked files A B text status sure kept (o , ends , inl all) =
+whole asked files A B text status sure kept (o, ends, inl all) =
     subst (λ (p : Output). EndsAs asked (Some files) ⊥ p)
     (λ i. record { status = sym all.0 i; text = sym all.1 i }) (ends_surely asked (Some files) A o sure ends)
-whole asked files A B text status sure kept (o , ends , inr cut) = absurd (kept cut.0)
+whole asked files A B text status sure kept (o, ends, inr cut) = absurd (kept cut.0)
 
 -- The same over the words of a call and the texts that it was given.
 pub written :

@@ -67,7 +67,13 @@ pub extern "C" fn fb_run(
     ensures { Given (run (codes "first") (codes "second")) (files_of setup.now schedule.now)
         buffer.new answer.new.status answer.new.count }
 {
-    *answer = respond(alloc, three(alloc, "run", FIRST, SECOND), setup, schedule, buffer);
+    *answer = respond(
+        alloc,
+        three(alloc, "run", FIRST, SECOND),
+        setup,
+        schedule,
+        buffer,
+    );
 }
 
 /// Whether a trace is that of a complete run of a setup, and its ending.
@@ -82,7 +88,13 @@ pub extern "C" fn fb_replay(
     ensures { Given (replay (codes "first") (codes "second")) (files_of setup.now trace.now)
         buffer.new answer.new.status answer.new.count }
 {
-    *answer = respond(alloc, three(alloc, "replay", FIRST, SECOND), setup, trace, buffer);
+    *answer = respond(
+        alloc,
+        three(alloc, "replay", FIRST, SECOND),
+        setup,
+        trace,
+        buffer,
+    );
 }
 
 /// What each board and memory did on the bus in a run by a schedule.
@@ -97,7 +109,13 @@ pub extern "C" fn fb_traffic(
     ensures { Given (traffic (codes "first") (codes "second")) (files_of setup.now schedule.now)
         buffer.new answer.new.status answer.new.count }
 {
-    *answer = respond(alloc, three(alloc, "traffic", FIRST, SECOND), setup, schedule, buffer);
+    *answer = respond(
+        alloc,
+        three(alloc, "traffic", FIRST, SECOND),
+        setup,
+        schedule,
+        buffer,
+    );
 }
 
 /// The run of a setup by the schedule of a number, and its ending.
@@ -112,7 +130,13 @@ pub extern "C" fn fb_run_seeded(
     ensures { Given (run_seeded (codes "first") seed) (files_of setup.now []) buffer.new
         answer.new.status answer.new.count }
 {
-    *answer = respond(alloc, with_seed(alloc, "run", FIRST, seed), setup, &[], buffer);
+    *answer = respond(
+        alloc,
+        with_seed(alloc, "run", FIRST, seed),
+        setup,
+        &[],
+        buffer,
+    );
 }
 
 /// What each board and memory did on the bus in a run by the schedule of a number.
@@ -127,7 +151,13 @@ pub extern "C" fn fb_traffic_seeded(
     ensures { Given (traffic_seeded (codes "first") seed) (files_of setup.now []) buffer.new
         answer.new.status answer.new.count }
 {
-    *answer = respond(alloc, with_seed(alloc, "traffic", FIRST, seed), setup, &[], buffer);
+    *answer = respond(
+        alloc,
+        with_seed(alloc, "traffic", FIRST, seed),
+        setup,
+        &[],
+        buffer,
+    );
 }
 
 /// The generated setup of a number.

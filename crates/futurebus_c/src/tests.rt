@@ -67,9 +67,15 @@ fn tells_of_faults(rt: HostRuntime) -> Result<(), Fail> {
     let mut answer = none();
     let mut buffer = [0u8; 30];
     fb_replay(alloc, SETUP, b"raise 2\n", &mut buffer, &mut answer);
-    assert!(rt; gave(&answer, &buffer, 1, b"fault trace line 1 not-a-run\n"), "replay");
+    assert!(rt;
+        gave(&answer, &buffer, 1, b"fault trace line 1 not-a-run\n"),
+        "replay"
+    );
     fb_run(alloc, b"memory\n", b"", &mut buffer, &mut answer);
-    assert!(rt; gave(&answer, &buffer, 3, b"fault setup line 1 number\n"), "run");
+    assert!(rt;
+        gave(&answer, &buffer, 3, b"fault setup line 1 number\n"),
+        "run"
+    );
     Ok(())
 }
 
@@ -79,7 +85,10 @@ fn fills_a_short_buffer(rt: HostRuntime) -> Result<(), Fail> {
     let mut answer = none();
     let mut whole = [0u8; 19];
     fb_check(alloc, TABLE, &mut whole, &mut answer);
-    assert!(rt; gave(&answer, &whole, 0, b"table un: accepted\n"), "room for all");
+    assert!(rt;
+        gave(&answer, &whole, 0, b"table un: accepted\n"),
+        "room for all"
+    );
     let mut short = [0u8; 18];
     fb_check(alloc, TABLE, &mut short, &mut answer);
     assert!(rt; answer.status == 5 && answer.count == 19, "too short");

@@ -51,12 +51,7 @@ pub fn with_number(alloc: Global, word: &str, number: u64) -> Result<Vec<String>
 }
 
 /// A word, a name, `seed` and the digits of a number.
-pub fn with_seed(
-    alloc: Global,
-    word: &str,
-    name: &str,
-    seed: u64,
-) -> Result<Vec<String>, NoMemory>
+pub fn with_seed(alloc: Global, word: &str, name: &str, seed: u64) -> Result<Vec<String>, NoMemory>
     ensures { IfOk result (λ words. map string_bytes words.items
         ≡ word.now ∷ name.now ∷ codes "seed" ∷ decimal seed ∷ []) }
 {
