@@ -1,0 +1,3 @@
+pub mod Texts
+pub mod Collected
+pub mod Given
