@@ -5,6 +5,7 @@ import re
 STATES = "MOESI"
 ACCESSES = ("read", "write", "pass", "flush")
 EVENTS = ("rd", "rfo", "inv", "urd", "bwr", "uwr", "ubw", "pas", "flu")
+SCRIPTS = [it.encode() for it in (*ACCESSES, "swap")]
 
 
 class Fault(Exception):
@@ -52,8 +53,11 @@ def is_result(word):
 
 
 class Table:
-    def __init__(self):
+    def __init__(self, version):
         self.cells = {}
+        newer = version == 2
+        self.accesses = [it.encode() for it in (*ACCESSES, *(("swap",) if newer else ()))]
+        self.events = [it.encode() for it in (*EVENTS, *(("usw",) if newer else ()))]
 
     def cell(self, line):
         state = line.words[0]
@@ -61,8 +65,8 @@ class Table:
             line.fault("word")
         line.word()
         event = line.word()
-        is_local = event in [it.encode() for it in ACCESSES]
-        if not is_local and event not in [it.encode() for it in EVENTS]:
+        is_local = event in self.accesses
+        if not is_local and event not in self.events:
             line.fault("word")
         if (state, event) in self.cells:
             line.fault("twice-cell")
@@ -78,7 +82,7 @@ class Table:
                 line.fault("limit alternatives 17")
             results.append(first)
             word = line.word()
-            if is_local and word in [it.encode() for it in EVENTS]:
+            if is_local and word in self.events:
                 word = line.word()
             if not is_local:
                 for signal in (b"CH", b"DI", b"SL"):
@@ -135,15 +139,15 @@ class Setup:
                 line.fault("word")
             if name in self.tables:
                 line.fault("twice-name")
-            self.table = self.tables[name] = Table()
+            self.table = self.tables[name] = Table(self.version(line))
         elif head == b"board":
             self.board(line)
-        elif self.boards and head in (b"read", b"write", b"pass", b"flush"):
+        elif self.boards and head in SCRIPTS:
             if self.accesses == 100000:
                 line.fault("limit accesses 100001")
             self.accesses += 1
             self.address(line)
-            if head == b"write":
+            if head in (b"write", b"swap"):
                 line.number_to(2**32 - 1)
         elif head == b"end":
             if not self.boards:
@@ -152,6 +156,14 @@ class Setup:
         else:
             line.fault("word")
         line.close()
+
+    def version(self, line):
+        """The version of a table, from what stands after its name."""
+        if line.at == len(line.words):
+            return 1
+        line.expect(b"version")
+        line.number_to(2, 2)
+        return 2
 
     def in_table(self, line):
         if line.words[0] != b"end":

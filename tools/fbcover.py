@@ -22,12 +22,17 @@ def reached(table):
     return [state for state in fbtrace.STATES if state in found]
 
 
-def needed(table):
-    """The cells that a table needs, in order."""
+def needed(table, has_swaps):
+    """The cells that a table needs, in order, those of swaps or none of them."""
     for state in reached(table):
         for event in (*fbtrace.ACCESSES, *(() if state == "I" else fbtrace.EVENTS)):
-            if event not in fbtrace.NEVER[state]:
+            if event not in fbtrace.NEVER[state] and (has_swaps or event not in fbtrace.SWAPS):
                 yield state, event
+
+
+def without_swaps(table):
+    """The cells of a table but those of swaps, for a setup that has none."""
+    return {cell: alternatives for cell, alternatives in table.items() if cell[1] not in fbtrace.SWAPS}
 
 
 class Coverage:
@@ -59,7 +64,10 @@ class Coverage:
             boards = [board.place for board in self.setup.boards if board.table == name]
             if not boards:
                 continue
-            cells = list(needed(table))
+            has_swaps = any(access.startswith("swap ") for board in self.setup.boards for access in board.script)
+            if not has_swaps:
+                table = without_swaps(table)
+            cells = list(needed(table, has_swaps))
             wanted = set(cells)
             cells += [cell for cell in table if cell not in wanted]
             counted = [self.taken(boards, cell, table.get(cell, [])) for cell in cells]

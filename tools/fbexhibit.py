@@ -7,7 +7,7 @@ import typing
 
 from fbharm import FALLBACK
 from fbtable import table_lines
-from fbtrace import Unfit
+from fbtrace import SETTING, Unfit
 
 # What the words of memory are at first. No word is 0, since a copy from nowhere has words 0.
 FIRST_WORD = 100
@@ -133,7 +133,7 @@ def exhibit(moves, bases, uncached):
     places = {board: place for place, board in enumerate(uses, 1)}
     scripts, schedule = {board: [] for board in uses}, []
     for number, move in enumerate(moves, 1):
-        value = f" {number}" if move.access == "write" else ""
+        value = f" {number}" if move.access in SETTING else ""
         scripts[move.board].append(f"{move.access} {move.word}{value}\n")
         schedule += [str(places[move.board])] * (4 if move.event else 1)
     setup = "".join(setup_lines(boards, scripts.values()))

@@ -10,15 +10,16 @@ import functools
 import itertools
 import typing
 
-from fbtrace import ACCESSES, EVENTS, LINE_READS, LINE_WRITES, NEVER, WORD_READS
+from fbtrace import ACCESSES, EVENTS, GIVING, LINE_READS, LINE_WRITES, NEVER, SETTING, WORD_READS
 
-WORD_WRITES = frozenset(event for event, row in EVENTS.items() if row[3] == "word")
+BOTH_WAYS = frozenset(event for event, row in EVENTS.items() if row[3] == "word both ways")
+WORD_WRITES = BOTH_WAYS | {event for event, row in EVENTS.items() if row[3] == "word"}
 BROADCASTS = frozenset(event for event, row in EVENTS.items() if row[2])
 PLAIN_WRITES = WORD_WRITES - BROADCASTS
 WORDS = (0, 1)
 NO_COPY = ("I", (False, False))
 # What a board does for an access for which its table has no alternative.
-FALLBACK = {"read": "I urd", "write": "I uwr", "pass": "I", "flush": "I"}
+FALLBACK = {"read": "I urd", "write": "I uwr", "pass": "I", "flush": "I", "swap": "I usw"}
 
 
 class Local(typing.NamedTuple):
@@ -101,10 +102,11 @@ def moved(config, move, choice, answers):
     di = next((other for other, said in answers if said.di), None)
     source = memory if di is None else copies[di][1]
     own = source if event in LINE_READS else copies[move.board][1]
-    if move.access == "read" and not (source if event in WORD_READS else own)[word]:
+    given = source if event in WORD_READS | BOTH_WAYS else own
+    if move.access in GIVING and not given[word]:
         return None, "reply"
     rows = [words for _, words in copies]
-    if move.access == "write":
+    if move.access in SETTING:
         memory, rows = put(memory, word, False), [put(row, word, False) for row in rows]
         own = put(own, word, True)
     memory, rows = taken(memory, rows, event, word, own, answers)
@@ -156,7 +158,7 @@ def moves(config, tables):
     for board, access in itertools.product(range(len(tables)), ACCESSES):
         state = copies[board][0]
         for choice in map(local, alternatives(tables[board], state, access)):
-            is_of_word = access in ("read", "write") or choice.event in WORD_WRITES
+            is_of_word = access in GIVING + SETTING or choice.event in WORD_WRITES
             for answers in answers_to(copies, tables, board, choice):
                 used = [(board, state, access, choice.text)]
                 used += [(at, copies[at][0], choice.event, said.text) for at, said in answers]

@@ -10,21 +10,35 @@ EXAMPLES = pathlib.Path(__file__).resolve().parent.parent / "examples"
 
 
 class Table(typing.NamedTuple):
-    """A table: its name, its cells with their alternatives as texts, and what `check` says of it,
-    which is a verdict and faults, as words."""
+    """A table: its name, the cells that it says with their alternatives as texts, whether it says
+    what it does on swaps, and what `check` says of it, which is a verdict and faults, as words."""
 
     name: str
     cells: dict
+    has_swaps: bool
     verdict: str
     faults: list
 
 
-def example(name):
-    """The cells of a table of examples/."""
-    tables = {}
-    text = (EXAMPLES / f"{name}.table").read_text()
-    list(fbtrace.outside_tables(fbtrace.free_text(text), tables))
-    return tables[name]
+def tables_in(text, has_swaps):
+    """The tables of a text by name, and the lines that are of none. Those of version 1 have the
+    cells of swaps that follow from the others, or else only what they say."""
+    tables, adds = {}, fbtrace.add_swaps if has_swaps else lambda cells: None
+    others = list(fbtrace.outside_tables(fbtrace.free_text(text), tables, adds))
+    return tables, others
+
+
+def example(name, has_swaps):
+    """The cells of a table of examples/, with those of swaps or without."""
+    return tables_in((EXAMPLES / f"{name}.table").read_text(), has_swaps)[0][name]
+
+
+def with_swaps(table):
+    """The cells of a table, and those of swaps that follow from them if it does not say these."""
+    cells = dict(table.cells)
+    if not table.has_swaps:
+        fbtrace.add_swaps(cells)
+    return cells
 
 
 def in_order(cells):
@@ -36,8 +50,10 @@ def in_order(cells):
 
 
 def table_lines(name, cells, notes=None):
-    """The lines of a table, with a note behind each cell that has one."""
-    yield f"table {name}\n"
+    """The lines of a table, with a note behind each cell that has one. It is of version 2 where it
+    says what it does on swaps."""
+    has_swaps = any(event in fbtrace.SWAPS for _, event in in_order(cells))
+    yield f"table {name}{' version 2' if has_swaps else ''}\n"
     for cell in in_order(cells):
         text = f"{' '.join(cell)} = {' | '.join(cells[cell])}"
         yield f"{text:<18} # {notes[cell]}\n" if notes and cell in notes else f"{text}\n"
@@ -64,10 +80,11 @@ def lines_of(ran, path, command):
 def read_table(path, program):
     """The one table of a file."""
     verdict, *faults = lines_of(run(program, "check", path), path, "check")
-    tables = {}
     with open(path, encoding="utf-8", errors="replace", newline="") as file:
-        others = list(fbtrace.outside_tables(fbtrace.free_text(file.read()), tables))
+        text = file.read()
+    tables, others = tables_in(text, False)
     if others or len(tables) != 1:
         raise fbtrace.Unfit(f"{path}: one table is asked for, and nothing else")
     ((name, cells),) = tables.items()
-    return Table(name, cells, verdict, [fault.split(" ") for fault in faults])
+    has_swaps = len(next(fbtrace.free_text(text))) > 2
+    return Table(name, cells, has_swaps, verdict, [fault.split(" ") for fault in faults])

@@ -24,7 +24,11 @@ MOST_LINES = 4096
 PROGRAM = pathlib.Path(__file__).resolve().parent.parent / "futurebus"
 
 STATES = ("M", "O", "E", "S", "I")
-ACCESSES = ("read", "write", "pass", "flush")
+ACCESSES = ("read", "write", "pass", "flush", "swap")
+# The accesses that give a word, and those that set one.
+GIVING, SETTING = ("read", "swap"), ("write", "swap")
+# The events of which a table of version 1 says nothing.
+SWAPS = ("swap", "usw")
 # The master signals CA, IM and BC of each bus event, and what its transfer is.
 EVENTS = {
     "rd": (1, 0, 0, "line read"),
@@ -36,6 +40,7 @@ EVENTS = {
     "ubw": (0, 1, 1, "word"),
     "pas": (1, 0, 0, "line written"),
     "flu": (0, 0, 0, "line written"),
+    "usw": (0, 1, 0, "word both ways"),
 }
 # The bus events that read a line, read a word, and write a line.
 LINE_READS, WORD_READS, LINE_WRITES = (
@@ -76,16 +81,34 @@ def free_text(text):
             yield words
 
 
-def outside_tables(lines, tables):
-    """The lines that are of no table, one after another. The tables that stand between them are put into `tables`."""
-    cells = None
+def swapped(state, alternatives):
+    """The alternatives of a swap that follow from those of a write: without a copy a word goes both ways."""
+    return [re.sub(" (uwr|ubw)$", " usw", text) if state == "I" else text for text in alternatives]
+
+
+def add_swaps(cells):
+    """Adds to the cells of a table of version 1 those of swaps, which follow from others."""
+    for state in STATES:
+        if (state, "write") in cells:
+            cells[state, "swap"] = swapped(state, cells[state, "write"])
+        if (state, "uwr") in cells:
+            cells[state, "usw"] = cells[state, "uwr"]
+
+
+def outside_tables(lines, tables, adds=add_swaps):
+    """The lines that are of no table, one after another. The tables that stand between them are put into `tables`, those
+    of version 1 with what `adds` adds to them."""
+    cells, is_older = None, False
     for words in lines:
         if cells is None:
             if words[0] == "table":
-                cells = tables[words[1]] = {}
+                cells, is_older = {}, len(words) == 2
+                tables[words[1]] = cells
             else:
                 yield words
         elif words == ["end"]:
+            if is_older:
+                adds(cells)
             cells = None
         else:
             cells[words[0], words[1]] = " ".join(words[3:]).split(" | ")
@@ -151,7 +174,7 @@ class Done:
     """An event that tells an access: a local or a data line. Such a line seldom comes again, but the part before its
     access does, which is `move`. `done` is what the trace says of the access."""
 
-    __slots__ = ("kind", "board", "line", "move", "done", "access", "address", "value")
+    __slots__ = ("kind", "board", "line", "move", "done", "access", "address", "value", "reply")
 
     before, after, event, source, takers, states = (
         property(operator.attrgetter(f"move.{field}"))
@@ -208,7 +231,8 @@ class Reader:
         event.kind, event.board, event.line, event.move, event.done = move.kind, move.board, move.line, move, done
         event.access, count = words[0], len(words)
         event.address = int(words[1]) if count > 1 else None
-        event.value = int(words[-1]) if count > 2 else None
+        event.value = int(words[2 if event.access in SETTING else 3]) if count > 2 else None
+        event.reply = int(words[-1]) if event.access in GIVING else None
         if event.line is None:
             event.line = event.address >> 2
         return event
@@ -265,14 +289,14 @@ class Machine:
         """Counts an access that a board has done."""
         board = event.board
         place = self.place[board] = self.place[board] + 1
-        if event.access == "read":
-            self.answers[board].update(b"answer %d %d %d %d\n" % (board, place, event.address, event.value))
+        if event.access in GIVING:
+            self.answers[board].update(b"answer %d %d %d %d\n" % (board, place, event.address, event.reply))
 
     def do_local(self, event):
         move, copies, line = event.move, self.copies[event.board], event.line
         if move.after == "I":
             copies.pop(line, None)
-        elif event.access == "write":
+        elif event.access in SETTING:
             copies[line] = move.after, written(copies.get(line, NO_COPY)[1], event)
         elif move.after != move.before:
             copies[line] = move.after, copies.get(line, NO_COPY)[1]
@@ -283,14 +307,14 @@ class Machine:
 
     def do_data(self, event):
         """The words that a data phase moves, and the states that it leaves."""
-        move, line, copies, is_write = event.move, event.line, self.copies, event.access == "write"
+        move, line, copies, is_setting = event.move, event.line, self.copies, event.access in SETTING
         board = event.board
         words = self.supplied(move) if move.event in LINE_READS else copies[board].get(line, NO_COPY)[1]
-        if is_write:
+        if is_setting:
             words = written(words, event)
         for taker in move.takers:
             if taker == "memory":
-                self.memory[line] = written(self.memory[line], event) if is_write else words
+                self.memory[line] = written(self.memory[line], event) if is_setting else words
             else:
                 state, row = self.row(int(taker), line)
                 copies[int(taker)][line] = state, written(row, event)

@@ -31,7 +31,7 @@ use Rattle.bus_model.specs.Soundness.{Sound}
 use Rattle.bus_model.specs.Steps.{Can, CanData, ForAccess, ForVictim, after, after_data}
 use Rattle.bus_model.specs.Turns.{Did, Finished, Turn, Waits, events_of_turns, played, turn}
 use Rattle.coherence.proofs.Cells.{permitted_local}
-use Rattle.coherence.proofs.ClassFacts.{implies, implies-not, implies-use, is_write, local_fact}
+use Rattle.coherence.proofs.ClassFacts.{implies, implies-not, implies-use, local_fact, sets_word}
 use Rattle.coherence.proofs.DataPhase.{after_data-is, answering_rows, done_boards, moved}
 use Rattle.coherence.proofs.DataSteps.{connected_sound}
 use Rattle.coherence.proofs.Lists.{all-in, filter_map-agree, in-find}
@@ -50,20 +50,20 @@ use Rattle.audit.proofs.Agreeing.{any_turn_same, displaced_not}
 use Rattle.audit.proofs.Ending.{any_and_rest}
 use Rattle.audit.proofs.Moved.{any_data-is, any_moved, any_rows}
 
--- ---- the word that a write carries
+-- ---- the word that a write or a swap carries
 
--- Whether a bus event that writes a word comes of a write.
+-- Whether a bus event that writes a word comes of a write or a swap.
 abbrev by_write : Option BusEvent → LocalEvent → Bool
 by_write None kind = true
-by_write (Some event) kind = implies (writes_word event) (is_write kind)
+by_write (Some event) kind = implies (writes_word event) (sets_word kind)
 
--- Where a word is written, the access is a write.
+-- Where a word is written, the access is a write or a swap.
 word_is_written :
     (state : State) (kind : LocalEvent) (outcome : Outcome) (event : BusEvent)
     → is_permitted_local state kind (record { result = outcome; bus = Some event }) ≡ true
-    → writes_word event ≡ true → is_write kind ≡ true
+    → writes_word event ≡ true → sets_word kind ≡ true
 word_is_written state kind outcome event h =
-    implies-use (writes_word event) (is_write kind)
+    implies-use (writes_word event) (sets_word kind)
     (local_fact (λ state kind a. by_write a.bus kind) refl state kind (record { result = outcome; bus = Some event }) h)
 
 word_fills_no_row : (event : BusEvent) → writes_word event ≡ true → fills_row event ≡ false
@@ -82,17 +82,25 @@ other_is_no_broadcast event h =
 other_is_no_word : (event : BusEvent) → writes_word event ≡ false → writes_plain_word event ≡ false
 other_is_no_word event h = ap (λ b. b && not (broadcasts event)) h
 
--- The word that a write sets is the one that is carried.
-written_carried :
-    (access : Access) (reply : Option ℕ) (base words : List ℕ) → is_write (kind_of access) ≡ true → length base ≡ 4
-    → carried_into (Some (record { access = access; reply = reply })) (written access base) words
-    ≡ written access words
-written_carried (Access.Write a v) reply base words h long =
+-- A word that is set is the one that stands at its place.
+set_carried :
+    (a v : ℕ) (base words : List ℕ) → length base ≡ 4
+    → slice_set words (offset_of a) (slice_index (slice_set base (offset_of a) v) (offset_of a))
+    ≡ slice_set words (offset_of a) v
+set_carried a v base words long =
     ap (λ w. slice_set words (offset_of a) w)
     (get_or-set_same base (offset_of a) v 0 (let m = mod-lt a four in omega arith))
   where
     four : 0 < 4
     four = omega arith
+
+-- The word that an access sets is the one that is carried.
+written_carried :
+    (access : Access) (reply : Option ℕ) (base words : List ℕ) → sets_word (kind_of access) ≡ true → length base ≡ 4
+    → carried_into (Some (record { access = access; reply = reply })) (written access base) words
+    ≡ written access words
+written_carried (Access.Write a v) reply base words h long = set_carried a v base words long
+written_carried (Access.Swap a v) reply base words h long = set_carried a v base words long
 written_carried (Access.Read a) reply base words h long = cc
 written_carried (Access.Pass a) reply base words h long = cc
 written_carried (Access.Flush a) reply base words h long = cc

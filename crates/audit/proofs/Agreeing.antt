@@ -38,7 +38,7 @@ use Rattle.bus_model.specs.Turns.{Did, Finished, Turn, Waits, decide, decide_ans
 use Rattle.bus_model.specs.TurnParts.{access_turn, action_turn, bus_turn, request_turn, room_turn, transaction_turn, turn_for}
 use Rattle.bus_model.proofs.TurnInParts.{in_parts}
 use Rattle.coherence.proofs.Cells.{has_local-in, in_class_there, permitted_local, reached_at}
-use Rattle.coherence.proofs.ClassFacts.{implies, implies-not, implies-use, is_fixed, is_silent, is_write, local_fact, silent_facts, silent_is_fixed}
+use Rattle.coherence.proofs.ClassFacts.{implies, implies-not, implies-use, is_fixed, is_silent, local_fact, silent_facts, silent_is_fixed}
 use Rattle.coherence.proofs.DataPhase.{after_data-is, answering_rows, done_boards, moved}
 use Rattle.coherence.proofs.DataSteps.{connected_sound}
 use Rattle.coherence.proofs.Lists.{In, all-in, filter_map-agree, in-filter}

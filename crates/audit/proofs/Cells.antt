@@ -1,9 +1,10 @@
 -- The cells of filled tables.
-use Rattle.std.proofs.Common.{◌≡◌, ℕ, ◌+◌, ◌*◌, ◌%◌, ◌<◌, ◌≤◌, Bool, true, false, List, [], ◌∷◌, Some, None, Option, length, map, option_map, unwrap_or, refl, ap, sym, subst, ◌∙◌, arith, mod-lt}
+use Rattle.std.proofs.Common.{◌≡◌, ℕ, ◌+◌, ◌*◌, ◌%◌, ◌<◌, ◌≤◌, Bool, true, false, cond, List, [], ◌∷◌, Some, None, Option, length, map, option_map, unwrap_or, refl, ap, sym, subst, ◌∙◌, arith, mod-lt}
 use Rattle.std.proofs.lemmas.List.{length-map}
 use Rattle.std.specs.Prelude.{slice_get, slice_index_or, flat_map}
 use Rattle.bus_signals.specs.declared.LocalEvent.{LocalEvent}
 use Rattle.bus_signals.specs.declared.BusEvent.{BusEvent}
+use Rattle.bus_signals.specs.declared.BusEvent.TheVariants.{Rd, Rfo, Inv, Urd, Bwr, Uwr, Ubw, Pas, Flu, Usw}
 use Rattle.bus_signals.specs.Accesses.{local_events, local_number, kind_of}
 use Rattle.bus_signals.specs.Signals.{bus_events, event_number}
 use Rattle.bus_signals.specs.declared.Access.{Access}
@@ -14,7 +15,8 @@ use Rattle.moesi_state.specs.States.{all_states, state_number}
 use Rattle.class_relation.specs.declared.LocalAction.{LocalAction}
 use Rattle.class_relation.specs.declared.SnoopAction.{SnoopAction}
 use Rattle.class_relation.specs.Permitted.{is_empty}
-use Rattle.class_relation.specs.Tables.{Table, locals_of, answers_of, local_cell, answer_cell, empty_table}
+use Rattle.class_relation.specs.Tables.{Table, locals_of, answers_of, said_locals, said_answers, local_cell, answer_cell, no_table}
+use Rattle.class_relation.specs.Versions.{is_answer_said, is_local_said, swaps_of}
 use Rattle.bus_model.specs.Places.{at_place}
 use Rattle.bus_model.specs.Setup.{Setup, BoardSpec, WellFormed, table_of}
 use Rattle.bus_model.specs.Configuration.{Row, state_at}
@@ -31,12 +33,35 @@ state_listed E = refl
 state_listed S = refl
 state_listed I = refl
 
+-- A table of version 2 says each of its cells itself.
+local_said : (event : LocalEvent) → is_local_said 2 event ≡ true
+local_said LocalEvent.Read = refl
+local_said LocalEvent.Write = refl
+local_said LocalEvent.Pass = refl
+local_said LocalEvent.Flush = refl
+local_said LocalEvent.Swap = refl
+
+answer_said : (event : BusEvent) → is_answer_said 2 event ≡ true
+answer_said Rd = refl
+answer_said Rfo = refl
+answer_said Inv = refl
+answer_said Urd = refl
+answer_said Bwr = refl
+answer_said Uwr = refl
+answer_said Ubw = refl
+answer_said Pas = refl
+answer_said Flu = refl
+answer_said Usw = refl
+
 -- A cell of local events of a filled table.
 pub locals_filled :
     (table : Table) (state : State) (event : LocalEvent)
     → locals_of (filled_table table) state event ≡ filled_locals table state event
 locals_filled table state event =
-    index-block (λ s. map (filled_locals table s) local_events) (length local_events)
+    ap (λ b.
+    cond b (said_locals (filled_table table) state event)
+    (swaps_of state (said_locals (filled_table table) state LocalEvent.Write))) (local_said event)
+    ∙ index-block (λ s. map (filled_locals table s) local_events) (length local_events)
     (λ s. length-map local_events (filled_locals table s)) all_states (state_number state) (local_number event) state []
     (state_listed state) (local_below event)
     ∙ index-map_got (filled_locals table state) local_events (local_number event) event [] (local_listed event)
@@ -46,7 +71,9 @@ pub answers_filled :
     (table : Table) (state : State) (event : BusEvent)
     → answers_of (filled_table table) state event ≡ filled_answers table state event
 answers_filled table state event =
-    index-block (λ s. map (filled_answers table s) bus_events) (length bus_events)
+    ap (λ b. cond b (said_answers (filled_table table) state event) (said_answers (filled_table table) state Uwr))
+    (answer_said event)
+    ∙ index-block (λ s. map (filled_answers table s) bus_events) (length bus_events)
     (λ s. length-map bus_events (filled_answers table s)) all_states (state_number state) (event_number event) state []
     (state_listed state) (bus_below event)
     ∙ index-map_got (filled_answers table state) bus_events (event_number event) event [] (bus_listed event)
@@ -59,13 +86,13 @@ table_filled setup board well there =
     let spec = spec_there setup board well there in
     ap (λ o.
     unwrap_or
-    (option_map (λ (spec : BoardSpec). slice_index_or (map filled_table setup.tables) spec.table (empty_table [])) o)
-    (empty_table [])) spec.1
-    ∙ index-map filled_table setup.tables spec.0.table (empty_table []) (empty_table []) spec.2.table
+    (option_map (λ (spec : BoardSpec). slice_index_or (map filled_table setup.tables) spec.table no_table) o)
+    no_table) spec.1
+    ∙ index-map filled_table setup.tables spec.0.table no_table no_table spec.2.table
     ∙ sym (ap (λ o.
     filled_table (unwrap_or
-    (option_map (λ (spec : BoardSpec). slice_index_or setup.tables spec.table (empty_table [])) o)
-    (empty_table []))) spec.1)
+    (option_map (λ (spec : BoardSpec). slice_index_or setup.tables spec.table no_table) o)
+    no_table)) spec.1)
 
 -- The alternatives of a board of a filled setup for an access.
 pub cell_filled :

@@ -7,12 +7,9 @@ use Rattle.std.proofs.lemmas.Bool.{leb-true, ltb-true, eq-eqb, and_parts}
 use Rattle.std.proofs.lemmas.List.Elements.{All-nil, All-cons}
 use Rattle.std.proofs.lemmas.List.Kept.{AllPairs-cons}
 use Rattle.bus_signals.specs.declared.Access.{Access}
-use Rattle.bus_signals.specs.declared.BusEvent.TheVariants.{Ubw}
-use Rattle.bus_signals.specs.declared.LocalEvent.{LocalEvent}
 use Rattle.bus_signals.specs.Accesses.{address_of}
 use Rattle.moesi_state.specs.declared.State.{State}
 use Rattle.moesi_state.specs.declared.State.TheVariants.{M, O, E, S, I}
-use Rattle.class_relation.specs.Actions.{by_bus}
 use Rattle.class_relation.specs.Tables.{Table}
 use Rattle.table_check.specs.KnownTables.{uncached}
 use Rattle.table_check.specs.Reached.{IsPath, leads_to}
@@ -24,7 +21,7 @@ use Rattle.audit.specs.declared.exhibits.ExhibitParts.{ExhibitParts}
 use Rattle.audit.specs.declared.exhibits.Other.{Other}
 use Rattle.audit.specs.declared.exhibits.Other.TheVariants.{Broadcasting, Known}
 use Rattle.audit.specs.declared.exhibits.Change.{Change}
-use Rattle.audit.specs.declared.exhibits.Change.TheVariants.{Local}
+use Rattle.audit.specs.declared.exhibits.Change.TheVariants.{Broadcast}
 use Rattle.audit.specs.Exhibits.{boards_of, broadcasting, changed, exhibit_of, exhibits, other_table, script_by, scripts_of, setup_of, steps_of}
 
 -- ---- names
@@ -55,7 +52,7 @@ x_is_no_other (Known ThroughBroadcast) = refl
 x_is_no_other (Known Exclusive) = refl
 x_is_no_other (Known Uncached) = refl
 x_is_no_other Broadcasting =
-    ap (same_name (codes "x")) (name-changed (codes "ub") uncached (Local I LocalEvent.Write (by_bus I Ubw)))
+    ap (same_name (codes "x")) (name-changed (codes "ub") uncached Broadcast)
 
 -- ---- shapes
 

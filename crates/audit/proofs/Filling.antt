@@ -17,7 +17,7 @@ use Rattle.moesi_state.specs.States.{same_state}
 use Rattle.moesi_state.specs.Outcomes.{may_settle}
 use Rattle.class_relation.specs.declared.LocalAction.{LocalAction}
 use Rattle.class_relation.specs.declared.SnoopAction.{SnoopAction}
-use Rattle.class_relation.specs.Tables.{Table, locals_of, answers_of, empty_table}
+use Rattle.class_relation.specs.Tables.{Table, locals_of, answers_of, no_table}
 use Rattle.class_relation.proofs.Spelling.{same_state-eq}
 use Rattle.table_check.specs.Reached.{leads_to, leads_locally, leads_by_answer, IsPath, Reached}
 use Rattle.table_check.proofs.Reaching.{reached_next, reached_first}
@@ -67,6 +67,7 @@ module _ (table : Table) (state next : State) where
   fallback_led LocalEvent.Write h = sym (same_state-eq I next h)
   fallback_led LocalEvent.Pass h = sym (same_state-eq I next h)
   fallback_led LocalEvent.Flush h = sym (same_state-eq I next h)
+  fallback_led LocalEvent.Swap h = sym (same_state-eq I next h)
 
   abbrev test : LocalAction → Bool
   test a = may_settle a.result next
@@ -145,16 +146,16 @@ shape_filled table (Cached sets ways) h = h
 
 board_filled : (setup : Setup) (spec : BoardSpec) → BoardFits setup spec → BoardFits (filled setup) spec
 board_filled setup spec h =
-    let same : slice_index_or (map filled_table setup.tables) spec.table (empty_table [])
-    ≡ filled_table (slice_index_or setup.tables spec.table (empty_table [])) =
-    index-map filled_table setup.tables spec.table (empty_table []) (empty_table []) h.table in
+    let same : slice_index_or (map filled_table setup.tables) spec.table no_table
+    ≡ filled_table (slice_index_or setup.tables spec.table no_table) =
+    index-map filled_table setup.tables spec.table no_table no_table h.table in
     record {
       number_low = h.number_low;
       number_high = h.number_high;
       table = let l = length-map setup.tables filled_table in let t = h.table in omega (arith, l, t);
       shape =
           subst (λ t. ShapeFits t spec.shape) (sym same)
-          (shape_filled (slice_index_or setup.tables spec.table (empty_table [])) spec.shape h.shape);
+          (shape_filled (slice_index_or setup.tables spec.table no_table) spec.shape h.shape);
     }
 
 -- A filled setup is within its limits.
@@ -179,6 +180,6 @@ well_filled setup well = record {
     names_filled i j d low high =
         let long = length-map setup.tables filled_table in
         let here : j < length setup.tables = omega (arith, long, high) in
-        let a = index-map filled_table setup.tables i d (empty_table []) (omega arith) in
-        let b = index-map filled_table setup.tables j d (empty_table []) here in
-        rw (a, b) (well.names i j (empty_table []) low here)
+        let a = index-map filled_table setup.tables i d no_table (omega arith) in
+        let b = index-map filled_table setup.tables j d no_table here in
+        rw (a, b) (well.names i j no_table low here)

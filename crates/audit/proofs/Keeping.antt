@@ -13,7 +13,7 @@ use Rattle.moesi_state.specs.declared.Outcome.TheVariants.{Fixed}
 use Rattle.moesi_state.specs.States.{holds}
 use Rattle.moesi_state.specs.Outcomes.{is_invalid, settled}
 use Rattle.class_relation.specs.Actions.{silently}
-use Rattle.class_relation.specs.Tables.{Table, empty_table}
+use Rattle.class_relation.specs.Tables.{Table, no_table}
 use Rattle.class_relation.proofs.Spelling.{same_outcome-eq, same_state-eq}
 use Rattle.table_check.specs.Reached.{Reached}
 use Rattle.table_check.proofs.Accepting.{reached_answer, reached_local}
@@ -231,12 +231,12 @@ room_for setup rows board line state well there reached held absent room =
     let spec = spec_there setup board well there in
     let shape : shape_of setup board ≡ spec.0.shape =
     ap (λ o. unwrap_or (option_map (λ (b : BoardSpec). b.shape) o) Plain) spec.1 in
-    let table : table_of setup board ≡ slice_index_or setup.tables spec.0.table (empty_table []) =
+    let table : table_of setup board ≡ slice_index_or setup.tables spec.0.table no_table =
     ap (λ o.
-    unwrap_or (option_map (λ (b : BoardSpec). slice_index_or setup.tables b.table (empty_table [])) o)
-    (empty_table [])) spec.1 in
+    unwrap_or (option_map (λ (b : BoardSpec). slice_index_or setup.tables b.table no_table) o)
+    no_table) spec.1 in
     subst (λ (sh : Shape). HasRoom sh rows board line) (sym shape)
-    (go spec.0.shape (slice_index_or setup.tables spec.0.table (empty_table [])) spec.2.shape
+    (go spec.0.shape (slice_index_or setup.tables spec.0.table no_table) spec.2.shape
     (subst (λ (t : Table). Reached t state) table reached)
     (subst (λ (sh : Shape). has_no_room sh rows board line ≡ false) shape room))
   where

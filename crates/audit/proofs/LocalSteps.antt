@@ -279,6 +279,7 @@ module _ (setup : Setup) (n : ℕ) (c : Configuration) (board : ℕ) (before sta
   still (Access.Read a) ws h = (same_state-eq before state h, refl)
   still (Access.Pass a) ws h = (same_state-eq before state h, refl)
   still (Access.Flush a) ws h = (same_state-eq before state h, refl)
+  still (Access.Swap a v) ws h = cc
 
   held_same :
       IsTrue (is_held mid.phase board line) → put_rows mid.rows mid.boards board line state words ≡ mid.rows

@@ -14,7 +14,7 @@ use Rattle.moesi_state.specs.States.{same_state}
 use Rattle.class_relation.specs.declared.LocalAction.{LocalAction}
 use Rattle.class_relation.specs.declared.SnoopAction.{SnoopAction}
 use Rattle.class_relation.specs.Actions.{silently, by_bus, answer}
-use Rattle.class_relation.specs.Tables.{Table, locals_of, answers_of}
+use Rattle.class_relation.specs.Tables.{Table, said_locals, answers_of}
 use Rattle.table_check.specs.KnownTables.{uncached}
 use Rattle.table_library.specs.declared.kinds.Kind.{Kind}
 use Rattle.table_library.specs.declared.kinds.Kind.TheVariants.{Invalidate, Update, Through, Uncached}
@@ -25,18 +25,25 @@ use Rattle.audit.specs.declared.exhibits.ExhibitParts.{ExhibitParts}
 use Rattle.audit.specs.declared.exhibits.Other.{Other}
 use Rattle.audit.specs.declared.exhibits.Other.TheVariants.{Known, Broadcasting}
 use Rattle.audit.specs.declared.exhibits.Change.{Change}
-use Rattle.audit.specs.declared.exhibits.Change.TheVariants.{Local, Answer}
+use Rattle.audit.specs.declared.exhibits.Change.TheVariants.{Alone, Broadcast, Answer}
 use Rattle.audit.specs.declared.exhibits.Step.{Step}
 
 -- The alternative that a local cell gets, if it is the cell that is changed.
 abbrev pub local_change : Change → State → LocalEvent → Option LocalAction
-local_change (Local s e action) state event =
-    if same_state s state && (local_number e == local_number event) then Some action else None
+local_change (Alone s e next) state event =
+    if same_state s state && (local_number e == local_number event)
+    then Some (silently next)
+    else None
+local_change Broadcast state event =
+    if same_state I state && (local_number LocalEvent.Write == local_number event)
+    then Some (by_bus I Ubw)
+    else None
 local_change (Answer s e action) state event = None
 
 -- The alternative that an answer cell gets, if it is the cell that is changed.
 abbrev pub answer_change : Change → State → BusEvent → Option SnoopAction
-answer_change (Local s e action) state event = None
+answer_change (Alone s e next) state event = None
+answer_change Broadcast state event = None
 answer_change (Answer s e action) state event =
     if same_state s state && same_event e event then Some action else None
 
@@ -45,23 +52,23 @@ abbrev pub in_place_of : {X : Type 0} → List X → Option X → List X
 in_place_of own None = own
 in_place_of own (Some action) = action ∷ []
 
--- The alternatives of the cells of a table after a change.
+-- The alternatives of the cells of a table after a change, of those that the table says itself.
 abbrev pub changed_locals : Table → Change → State → LocalEvent → List LocalAction
 changed_locals table change state event =
-    in_place_of (locals_of table state event) (local_change change state event)
+    in_place_of (said_locals table state event) (local_change change state event)
 
 abbrev pub changed_answers : Table → Change → State → BusEvent → List SnoopAction
 changed_answers table change state event =
     in_place_of (answers_of table state event) (answer_change change state event)
 
--- A table under another name, with one cell changed.
+-- A table of version 1 under another name, with one cell changed.
 abbrev pub changed : List ℕ → Table → Change → Table
 changed name table change =
-    table_by name (changed_locals table change) (changed_answers table change)
+    table_by name 1 (changed_locals table change) (changed_answers table change)
 
 -- An uncached board that broadcasts the words that it writes.
 abbrev pub broadcasting : Table
-broadcasting = changed (codes "ub") uncached (Local I LocalEvent.Write (by_bus I Ubw))
+broadcasting = changed (codes "ub") uncached Broadcast
 
 -- The table of the second board.
 abbrev pub other_table : Other → Table
@@ -126,7 +133,7 @@ exhibits =
     ∷ one_writes (Answer M Rd (answer O true false false)) (Known Invalidate) small (reads 2) None
     ∷ one_writes (Answer M Rfo (answer I false false false)) (Known Invalidate) small
     (four_turns 2 (Access.Write 1 6)) None
-    ∷ one_writes (Local M LocalEvent.Flush (silently I)) (Known Uncached) Plain
+    ∷ one_writes (Alone M LocalEvent.Flush I) (Known Uncached) Plain
     (one_turn 1 (Access.Flush 0)) None
     ∷ one_writes (Answer O Bwr (answer O true false true)) (Known Update) small (reads 2)
     (Some (four_turns 2 (Access.Write 1 6)))
@@ -141,7 +148,7 @@ exhibits =
       second = writes 2 7;
       third = None;
     }
-    ∷ both_read Invalidate (Local S LocalEvent.Write (silently M))
+    ∷ both_read Invalidate (Alone S LocalEvent.Write M)
     (Some (one_turn 1 (Access.Write 0 7)))
     ∷ []
 

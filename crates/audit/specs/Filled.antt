@@ -3,7 +3,7 @@
 use Rattle.std.specs.Prelude.{Option, Some, None, List, [], ◌∷◌, map, flat_map, false}
 use Rattle.bus_signals.specs.declared.LocalEvent.{LocalEvent}
 use Rattle.bus_signals.specs.declared.BusEvent.{BusEvent}
-use Rattle.bus_signals.specs.declared.BusEvent.TheVariants.{Urd, Uwr}
+use Rattle.bus_signals.specs.declared.BusEvent.TheVariants.{Urd, Uwr, Usw}
 use Rattle.bus_signals.specs.Accesses.{local_events}
 use Rattle.bus_signals.specs.Signals.{bus_events}
 use Rattle.moesi_state.specs.declared.State.{State}
@@ -18,13 +18,14 @@ use Rattle.class_relation.specs.Actions.{silently, by_bus, answer}
 use Rattle.class_relation.specs.Tables.{Table, locals_of, answers_of}
 use Rattle.bus_model.specs.Setup.{Setup}
 
--- What a board does for an access for which its table has no alternative: it reads and writes words
--- past its cache, and it gives its copy up for any other access.
+-- What a board does for an access for which its table has no alternative: it reads, writes and swaps
+-- words past its cache, and it gives its copy up for any other access.
 abbrev pub fallback_local : LocalEvent → LocalAction
 fallback_local LocalEvent.Read = by_bus I Urd
 fallback_local LocalEvent.Write = by_bus I Uwr
 fallback_local LocalEvent.Pass = silently I
 fallback_local LocalEvent.Flush = silently I
+fallback_local LocalEvent.Swap = by_bus I Usw
 
 -- What a board answers where its table has no answer: it keeps its state and asserts nothing.
 abbrev pub fallback_answer : State → SnoopAction
@@ -54,10 +55,12 @@ abbrev pub filled_answers : Table → State → BusEvent → List SnoopAction
 filled_answers table state event =
     filled_cell (fallback_answer state) (answers_of table state event)
 
--- A table with all its cells filled.
+-- A table with all its cells filled. It is of version 2, so that it says them all itself, those of
+-- swaps too.
 abbrev pub filled_table : Table → Table
 filled_table table = record {
   name = table.name;
+  version = 2;
   locals = flat_map (λ state. map (filled_locals table state) local_events) all_states;
   answers = flat_map (λ state. map (filled_answers table state) bus_events) all_states;
 }

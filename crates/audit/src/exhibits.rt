@@ -1,28 +1,29 @@
 //! The exhibits: small setups of two boards. One cell of the first board's table is not as it ought
 //! to be, and it does harm.
 
-ghost use Rattle.std.specs.Prelude.{◌≡◌, ◌≤◌, ◌<◌, ◌-◌, ◌++◌, ◌∷◌, [], true, Some, IfOk, OnOk, codes, length, replicate, slice_get};
+ghost use Rattle.std.specs.Prelude.{◌≡◌, ◌≤◌, ◌<◌, ◌-◌, ◌++◌, ◌∷◌, [], true, Some, IsTrue, IfSome, IfOk, OnOk, codes, length, replicate, slice_get};
 ghost use Rattle.class_relation.specs.Names.{is_name};
 ghost use Rattle.class_relation.specs.Rows.{rows};
-ghost use Rattle.class_relation.specs.Actions.{silently};
+ghost use Rattle.class_relation.specs.Versions.{is_bus_said};
 ghost use Rattle.table_library.specs.Protocols.{protocol_table};
 ghost use Rattle.audit.specs.Exhibits.{local_change, answer_change, changed, changed_locals, changed_answers, other_table, exhibit_of, steps_of, four_turns, one_turn, reads, writes, both_read, one_writes, script_by, scripts_of, turns_of, boards_of, setup_of};
 
 use bus_signals::{Access, Addr, BusEvent, LocalEvent, Response};
 use class_relation::{LocalAction, Name, SnoopAction, Table};
-use moesi_state::Outcome::Fixed;
-use moesi_state::State;
 use moesi_state::State::{E, I, M, O, S};
+use moesi_state::{Outcome, State};
 use no_memory::NoMemory;
 use setup::Setup;
 use std::alloc::Global;
 use table_check::{BoardSpec, Choose, Shape};
 use table_library::{Cells, Kind, filled_table, push_answer, push_local, table_of};
 
-/// The one alternative that a cell of a table gets in place of its own.
+/// The one alternative that a cell of a table gets in place of its own: an access without the bus,
+/// a word that is broadcast as it is written past the cache, or an answer.
 #[derive(Clone, Copy)]
 enum Change {
-    Local(State, LocalEvent, LocalAction),
+    Alone(State, LocalEvent, State),
+    Broadcast,
     Answer(State, BusEvent, SnoopAction),
 }
 
@@ -76,6 +77,16 @@ fn one_turn(board: u8, access: Access) -> Step
     }
 }
 
+/// An access goes to the state, by a transaction if need be.
+fn goes(state: State, bus: Option<BusEvent>) -> LocalAction
+    ensures { result ≡ record { result = Outcome.Fixed state; bus = bus } }
+{
+    LocalAction {
+        result: Outcome::Fixed(state),
+        bus,
+    }
+}
+
 /// Another answer in a cell.
 fn answers(state: State, event: BusEvent, next: State, response: Response) -> Change
     ensures { result ≡ Change.Answer state event (record { result = next; response = response }) }
@@ -90,10 +101,14 @@ fn answers(state: State, event: BusEvent, next: State, response: Response) -> Ch
 impl Change {
     /// The alternative that a local cell gets, if it is the cell that is changed.
     fn local(self, state: State, event: LocalEvent) -> Option<LocalAction>
-        ensures { result ≡ local_change self state event }
+        ensures change { result ≡ local_change self state event }
+        ensures known { IfSome result (λ action. IsTrue (is_bus_said 1 action.bus)) }
     {
         match self {
-            Change::Local(at, by, action) if at == state && by == event => Some(action),
+            Change::Alone(at, by, next) if at == state && by == event => Some(goes(next, None)),
+            Change::Broadcast if state == I && event == LocalEvent::Write => {
+                Some(goes(I, Some(BusEvent::Ubw)))
+            }
             _ => None,
         }
     }
@@ -117,6 +132,8 @@ struct Changed {
 }
 
 impl Cells for Changed {
+    ghost version = { λ cells. 1 };
+
     ghost locals = { λ cells. changed_locals (protocol_table cells.base) cells.change };
 
     ghost answers = { λ cells. changed_answers (protocol_table cells.base) cells.change };
@@ -145,7 +162,7 @@ impl Cells for Changed {
 fn with_change(alloc: Global, name: Name, base: Kind, change: Change) -> Result<Table, NoMemory>
     ensures { IfOk result (λ table. table ≡ changed name (protocol_table base) change) }
 {
-    filled_table(alloc, name, &Changed { base, change })
+    filled_table(alloc, name, 1, &Changed { base, change })
 }
 
 /// A valid name of a table.
@@ -182,17 +199,6 @@ const CH_SL: Response = Response {
     di: false,
     sl: true,
 };
-
-/// Another alternative, without the bus, in a local cell.
-fn alone(state: State, event: LocalEvent, next: State) -> Change
-    ensures { result ≡ Change.Local state event (silently next) }
-{
-    let action = LocalAction {
-        result: Fixed(next),
-        bus: None,
-    };
-    Change::Local(state, event, action)
-}
 
 const SMALL: Shape = Shape::Cached { sets: 1, ways: 1 };
 
@@ -285,7 +291,7 @@ fn late_exhibit(number: u8) -> ExhibitParts
 {
     match number {
         7 => {
-            let change = alone(M, LocalEvent::Flush, I);
+            let change = Change::Alone(M, LocalEvent::Flush, I);
             let second = one_turn(1, Access::Flush(Addr(0)));
             one_writes(change, UNCACHED, Shape::Plain, second, None)
         }
@@ -321,7 +327,7 @@ fn late_exhibit(number: u8) -> ExhibitParts
             let third = one_turn(1, Access::Write(Addr(0), 7));
             both_read(
                 Kind::Invalidate,
-                alone(S, LocalEvent::Write, M),
+                Change::Alone(S, LocalEvent::Write, M),
                 Some(third),
             )
         }
@@ -357,12 +363,7 @@ fn second_table(alloc: Global, other: Other) -> Result<Table, NoMemory>
     match other {
         Other::Known(kind) => table_of(alloc, kind),
         Other::Broadcasting => {
-            let action = LocalAction {
-                result: Fixed(I),
-                bus: Some(BusEvent::Ubw),
-            };
-            let change = Change::Local(I, LocalEvent::Write, action);
-            with_change(alloc, name_of("ub"), Kind::Uncached, change)
+            with_change(alloc, name_of("ub"), Kind::Uncached, Change::Broadcast)
         }
     }
 }

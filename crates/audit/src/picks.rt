@@ -58,6 +58,7 @@ fn fallback_local(event: LocalEvent) -> LocalAction
         LocalEvent::Read => goes(State::I, Some(BusEvent::Urd)),
         LocalEvent::Write => goes(State::I, Some(BusEvent::Uwr)),
         LocalEvent::Pass | LocalEvent::Flush => goes(State::I, None),
+        LocalEvent::Swap => goes(State::I, Some(BusEvent::Usw)),
     }
 }
 

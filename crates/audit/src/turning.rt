@@ -92,12 +92,12 @@ fn answers_to(
     answers
 }
 
-/// Whether an access leaves a line as it is: it writes no word, and the state stays.
+/// Whether an access leaves a line as it is: it is neither a write nor a swap, and the state stays.
 fn is_quiet(access: &Access, before: State, after: State) -> bool
     ensures { result ≡ is_quiet access.now before after }
 {
     match access {
-        Access::Write(_, _) => false,
+        Access::Write(_, _) | Access::Swap(_, _) => false,
         _ => before == after,
     }
 }
@@ -107,7 +107,7 @@ fn reply_of(access: &Access, words: [u32; 4]) -> Option<u32>
     ensures { result ≡ reply_of access.now words }
 {
     match access {
-        Access::Read(addr) => Some(words[addr.offset() as usize]),
+        Access::Read(addr) | Access::Swap(addr, _) => Some(words[addr.offset() as usize]),
         _ => None,
     }
 }

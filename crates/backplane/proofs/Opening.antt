@@ -4,7 +4,7 @@ use Rattle.std.specs.Prelude.{All, replicate, slice_index_or}
 use Rattle.std.specs.List.{AllByRecursion}
 use Rattle.std.proofs.lemmas.List.{take_more, take_all}
 use Rattle.bus_signals.specs.declared.Access.{Access}
-use Rattle.class_relation.specs.Tables.{Table, empty_table}
+use Rattle.class_relation.specs.Tables.{Table, no_table}
 use Rattle.table_check.specs.Accepted.{InClass, faults}
 use Rattle.bus_model.specs.Places.{places_from}
 use Rattle.bus_model.specs.Setup.{Setup, BoardSpec, BoardFits, WellFormed, AllInClass, line_count}
@@ -61,10 +61,10 @@ pub first-refused :
     → IsRefused tables fault
 first-refused tables i table NoMemory l is all told = tt
 first-refused tables i table (TableRefused place verdict) l is all told =
-    let here : table ≡ table_at tables i = is ∙ at-index tables i table (empty_table []) l in
+    let here : table ≡ table_at tables i = is ∙ at-index tables i table no_table l in
     subst (λ (k : ℕ). FirstRefused tables k verdict) (sym told.0) (record {
       there = l;
-      first = λ earlier lower. at-taken tables i earlier (empty_table []) all lower (omega arith);
+      first = λ earlier lower. at-taken tables i earlier no_table all lower (omega arith);
       told = told.1 ∙ ap faults here;
       refused = λ accepted. told.2 (subst InClass (sym here) accepted);
     })

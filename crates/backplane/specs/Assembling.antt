@@ -1,7 +1,7 @@
 -- Why no machine is made of a setup.
-use Rattle.std.specs.Prelude.{◌≡◌, ℕ, ◌<◌, List, [], length, map, slice_index_or}
+use Rattle.std.specs.Prelude.{◌≡◌, ℕ, ◌<◌, List, length, map, slice_index_or}
 use Rattle.bus_signals.specs.declared.Access.{Access}
-use Rattle.class_relation.specs.Tables.{Table, empty_table}
+use Rattle.class_relation.specs.Tables.{Table, no_table}
 use Rattle.table_check.specs.declared.verdict.CellFault.{CellFault}
 use Rattle.table_check.specs.Accepted.{InClass, faults}
 use Rattle.bus_model.specs.Setup.{Setup}
@@ -14,7 +14,7 @@ script_lengths setup = map (λ (script : List Access). length script) setup.scri
 
 -- The table at this place, from 0.
 abbrev pub table_at : List Table → ℕ → Table
-table_at tables place = slice_index_or tables place (empty_table [])
+table_at tables place = slice_index_or tables place no_table
 
 -- The first of these tables that is not in the class is at this place, from 0, and these are its
 -- faults.

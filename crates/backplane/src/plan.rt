@@ -51,23 +51,23 @@ pub enum Plan {
     },
 }
 
-/// Whether an access leaves a line as it is: it is not a write, and the state stays.
+/// Whether an access leaves a line as it is: it is neither a write nor a swap, and the state stays.
 pub fn is_quiet(access: &Access, before: State, after: State) -> bool
     ensures { result ≡ is_quiet access.now before after }
 {
     match access {
-        Access::Write(_, _) => false,
-        _ => before == after,
+        Access::Write(_, _) | Access::Swap(_, _) => false,
+        Access::Read(_) | Access::Pass(_) | Access::Flush(_) => before == after,
     }
 }
 
-/// The reply of an access over the words of its line: a read has one.
+/// The reply of an access over the words of its line before it: a read and a swap have one.
 pub fn reply_of(access: &Access, words: [u32; 4]) -> Option<u32>
     ensures { result ≡ reply_of access.now words }
 {
     match access {
-        Access::Read(addr) => Some(words[addr.offset() as usize]),
-        _ => None,
+        Access::Read(addr) | Access::Swap(addr, _) => Some(words[addr.offset() as usize]),
+        Access::Write(_, _) | Access::Pass(_) | Access::Flush(_) => None,
     }
 }
 

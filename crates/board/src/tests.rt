@@ -1,7 +1,8 @@
 //! One row through every call of the rack, rows of two boards against lists of rows, and the draws
 //! of each chooser.
 
-ghost use Rattle.std.specs.Prelude.{◌≡◌, ◌<◌, [], ◌∷◌, length, IfOk};
+ghost use Rattle.std.specs.Prelude.{◌≡◌, ◌<◌, [], ◌∷◌, length, IsTrue, IfOk};
+ghost use Rattle.class_relation.specs.Versions.{is_local_said, is_answer_said, is_bus_said};
 ghost use Rattle.board.specs.Rack.{IsBoard, no_counts};
 ghost use Rattle.table_check.specs.declared.boards.BoardSpec.{BoardSpec};
 ghost use Rattle.table_check.specs.declared.boards.Choose.{Choose};
@@ -55,7 +56,10 @@ fn acts(
     event: LocalEvent,
     next: State,
     bus: Option<BusEvent>,
-) -> Result<(), PushFault> {
+) -> Result<(), PushFault>
+    requires said { IsTrue (is_local_said table.old.version event) }
+    requires known { IsTrue (is_bus_said table.old.version bus) }
+{
     let result = Outcome::Fixed(next);
     table.push_local(state, event, LocalAction { result, bus })
 }
@@ -67,7 +71,9 @@ fn answers(
     next: State,
     ch: bool,
     sl: bool,
-) -> Result<(), PushFault> {
+) -> Result<(), PushFault>
+    requires { IsTrue (is_answer_said table.old.version event) }
+{
     let response = Response { ch, di: false, sl };
     table.push_snoop(
         State::S,
@@ -95,7 +101,7 @@ fn sharer_answers(t: &mut Table) -> Result<(), PushFault> {
 
 /// A write-through table that writes a word it does not hold plainly or broadcast.
 fn write_through(alloc: Global, name: Name) -> Result<Table, PushFault> {
-    let mut t = Table::empty(alloc, name);
+    let mut t = Table::empty(alloc, name, 1);
     acts(&mut t, State::S, LocalEvent::Read, State::S, None)?;
     acts(
         &mut t,

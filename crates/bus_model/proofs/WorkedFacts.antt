@@ -1,5 +1,5 @@
 -- What the definitions of the theorem say about small lines, histories, configurations and runs, each computed.
-use Rattle.std.proofs.Common.{◌≡◌, ℕ, zero, suc, ◌≤◌, [], ◌∷◌, None, refl, arith}
+use Rattle.std.proofs.Common.{◌≡◌, ℕ, zero, suc, ◌≤◌, [], ◌∷◌, Option, None, refl, arith}
 use Rattle.moesi_state.specs.declared.State.TheVariants.{M, O, E, S}
 use Rattle.bus_model.specs.Settling.{lines_after, driven_below, rounds_from}
 use Rattle.bus_model.specs.Events.{Local, Drop, Grant}
@@ -8,9 +8,10 @@ use Rattle.bus_model.specs.Steps.{Can}
 use Rattle.bus_model.specs.Runs.{Complete}
 use Rattle.bus_model.specs.Entries.{entries, Legal}
 use Rattle.bus_model.specs.Coherence.{LineCoherent, Coherent}
-use Rattle.bus_model.specs.WorkedWords.{write, did, copy}
+use Rattle.bus_model.specs.WorkedWords.{write, swap, did, copy}
 use Rattle.bus_model.specs.WorkedRuns.{intervention, intervention_events, intervention_end, gap, quiet_read_events, between_phases}
 use Rattle.bus_model.specs.WorkedRoom.{given_up, victim_flush}
+use Rattle.bus_model.specs.WorkedSwaps.{held_swap, between_swap}
 use Rattle.bus_model.specs.WorkedFacts.{old_words, new_words, intervention_entries, quiet_read_entries, lost_copy, halfway, bus_taken, both_raised, owned_victim}
 
 -- ---- lines
@@ -44,6 +45,11 @@ no_stale_memory h = let same : old_words ≡ new_words = h.unowned refl in cc
 pub no_write_to_a_held_line : Can gap between_phases (Local 1 E M (did (write 0 9) None)) → ⊥
 unfolding lines_after driven_below rounds_from
 no_write_to_a_held_line can = let quiet = can.held refl in cc
+
+pub no_swap_of_a_held_line :
+    (reply : Option ℕ) → Can held_swap between_swap (Local 1 E M (did (swap 0 9) reply)) → ⊥
+unfolding lines_after driven_below rounds_from
+no_swap_of_a_held_line reply can = let quiet = can.held refl in cc
 
 pub highest_wins : Can given_up both_raised (Grant 3 1 10 2)
 unfolding lines_after driven_below rounds_from

@@ -9,7 +9,7 @@ use Rattle.bus_signals.specs.declared.Access.{Access}
 use Rattle.bus_signals.specs.Accesses.{address_of}
 use Rattle.moesi_state.specs.declared.State.{State}
 use Rattle.moesi_state.specs.declared.State.TheVariants.{M, O, E, S, I}
-use Rattle.class_relation.specs.Tables.{Table, empty_table}
+use Rattle.class_relation.specs.Tables.{Table, no_table}
 use Rattle.class_relation.proofs.Spelling.{both_true}
 use Rattle.table_check.specs.Reached.{Reached, is_reached, reached_within}
 use Rattle.table_check.specs.Accepted.{InClass, faults}
@@ -19,6 +19,7 @@ use Rattle.bus_model.specs.WorkedRuns.{intervention, broadcast, no_hit, gap, qui
 use Rattle.bus_model.specs.WorkedRoom.{write_through_word, victim_flush, given_up, alternation}
 use Rattle.bus_model.specs.WorkedCopies.{clean_victim, captured}
 use Rattle.bus_model.specs.WorkedFair.{passed_over, starving}
+use Rattle.bus_model.specs.WorkedSwaps.{owned_swap, lock}
 
 -- ---- tests of what a setup must be
 
@@ -102,11 +103,11 @@ shape_tested table (Cached sets ways) h =
 abbrev board_fits : Setup → BoardSpec → Bool
 board_fits setup spec =
     leb 1 spec.number && (leb spec.number 1023 && (ltb spec.table (length setup.tables)
-    && shape_fits (slice_index_or setup.tables spec.table (empty_table [])) spec.shape))
+    && shape_fits (slice_index_or setup.tables spec.table no_table) spec.shape))
 
 board_tested : (setup : Setup) (spec : BoardSpec) → board_fits setup spec ≡ true → BoardFits setup spec
 board_tested setup spec h =
-    let table = slice_index_or setup.tables spec.table (empty_table []) in
+    let table = slice_index_or setup.tables spec.table no_table in
     let low = both_true (leb 1 spec.number)
     (leb spec.number 1023 && (ltb spec.table (length setup.tables) && shape_fits table spec.shape)) h in
     let high =
@@ -270,3 +271,19 @@ starving_fits = well_formed starving refl refl refl refl refl refl refl refl ref
 pub starving_accepted : AllInClass starving
 unfolding faults reached_within
 starving_accepted = All-from_recursion InClass starving.tables (refl, tt)
+
+pub owned_swap_fits : WellFormed owned_swap
+unfolding reached_within
+owned_swap_fits = well_formed owned_swap refl refl refl refl refl refl refl refl refl refl refl refl refl
+
+pub owned_swap_accepted : AllInClass owned_swap
+unfolding faults reached_within
+owned_swap_accepted = All-from_recursion InClass owned_swap.tables (refl, (refl, tt))
+
+pub lock_fits : WellFormed lock
+unfolding reached_within
+lock_fits = well_formed lock refl refl refl refl refl refl refl refl refl refl refl refl refl
+
+pub lock_accepted : AllInClass lock
+unfolding faults reached_within
+lock_accepted = All-from_recursion InClass lock.tables (refl, tt)

@@ -19,12 +19,13 @@ use Rattle.bus_model.specs.Arbitration.{Wins, won_by}
 use Rattle.bus_model.specs.Connecting.{other_holders, AnswersFit}
 use Rattle.bus_model.specs.Carrying.{source_of, takers_of, states_of, source_words, written, reply_of, done_of, master_words, memory_words, answering_row, state_of_master}
 
--- Whether an access leaves a line as it is: it is not a write, and the state stays.
+-- Whether an access leaves a line as it is: it is neither a write nor a swap, and the state stays.
 abbrev pub is_quiet : Access → State → State → Bool
 is_quiet (Access.Read a) before after = same_state before after
 is_quiet (Access.Write a value) before after = false
 is_quiet (Access.Pass a) before after = same_state before after
 is_quiet (Access.Flush a) before after = same_state before after
+is_quiet (Access.Swap a value) before after = false
 
 -- A board may complete its present access by itself.
 pub record CanLocal (setup : Setup) (c : Configuration) (board : ℕ) (before after : State)

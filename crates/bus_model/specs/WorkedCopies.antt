@@ -3,10 +3,11 @@
 -- schedule's turns, and the configuration to which they lead.
 use Rattle.std.specs.Prelude.{ℕ, true, false, List, [], ◌∷◌, Some, None, slice_set, codes}
 use Rattle.bus_signals.specs.declared.BusEvent.TheVariants.{Rd, Rfo, Inv, Bwr, Ubw, Pas}
+use Rattle.bus_signals.specs.declared.LocalEvent.{LocalEvent}
 use Rattle.moesi_state.specs.declared.State.TheVariants.{M, O, E, S, I}
 use Rattle.moesi_state.specs.declared.Outcome.TheVariants.{Fixed, OnHit}
 use Rattle.class_relation.specs.Actions.{answer, by_bus}
-use Rattle.class_relation.specs.Tables.{Table}
+use Rattle.class_relation.specs.Tables.{Table, local_cell}
 use Rattle.table_check.specs.KnownTables.{uncached, copy_back, copy_back_locals, copy_back_answers}
 use Rattle.bus_model.specs.Setup.{Setup}
 use Rattle.bus_model.specs.Events.{Event, Local, Drop, Raise, Grant, Connect, Nobody, Memory, Board}
@@ -20,6 +21,7 @@ abbrev pub fixed_owner : Table
 fixed_owner =
     record {
       name = codes "fo";
+      version = 1;
       locals = copy_back_locals (by_bus M Inv) (by_bus O Bwr);
       answers = copy_back_answers;
     }
@@ -29,7 +31,8 @@ abbrev pub broadcasting : Table
 broadcasting =
     record {
       name = codes "bw";
-      locals = slice_set uncached.locals 17 (by_bus I Ubw ∷ []);
+      version = 1;
+      locals = slice_set uncached.locals (local_cell I LocalEvent.Write) (by_bus I Ubw ∷ []);
       answers = uncached.answers;
     }
 

@@ -3,10 +3,11 @@
 -- configuration to which they lead.
 use Rattle.std.specs.Prelude.{ℕ, true, false, List, [], ◌∷◌, Some, None, slice_set, codes}
 use Rattle.bus_signals.specs.declared.BusEvent.TheVariants.{Rd, Rfo, Uwr, Ubw, Flu}
+use Rattle.bus_signals.specs.declared.LocalEvent.{LocalEvent}
 use Rattle.moesi_state.specs.declared.State.TheVariants.{M, O, E, S, I}
 use Rattle.moesi_state.specs.declared.Outcome.TheVariants.{Fixed, OnHit}
 use Rattle.class_relation.specs.Actions.{answer, by_bus}
-use Rattle.class_relation.specs.Tables.{Table}
+use Rattle.class_relation.specs.Tables.{Table, local_cell}
 use Rattle.table_check.specs.KnownTables.{uncached, copy_back, write_through}
 use Rattle.bus_model.specs.Setup.{Setup, Plain, Round}
 use Rattle.bus_model.specs.Events.{Event, Local, Raise, Grant, Connect, Nobody, Memory, Board}
@@ -19,7 +20,10 @@ abbrev pub two_writes : Table
 two_writes =
     record {
       name = codes "mix";
-      locals = slice_set uncached.locals 17 (by_bus I Uwr ∷ by_bus I Ubw ∷ []);
+      version = 1;
+      locals =
+          slice_set uncached.locals (local_cell I LocalEvent.Write)
+          (by_bus I Uwr ∷ by_bus I Ubw ∷ []);
       answers = uncached.answers;
     }
 

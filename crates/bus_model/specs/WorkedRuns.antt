@@ -29,6 +29,7 @@ abbrev pub write_through_dropping : Table
 write_through_dropping =
     record {
       name = codes "dr";
+      version = 1;
       locals = write_through.locals;
       answers = slice_set write_through.answers (answer_cell S Rd) (quiet I);
     }

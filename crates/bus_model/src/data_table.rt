@@ -1,7 +1,7 @@
 //! The data phase of each bus event, as a table.
 
 ghost use Rattle.std.specs.Prelude.{true, false};
-ghost use Rattle.bus_signals.specs.declared.BusEvent.TheVariants.{Rd, Rfo, Inv, Urd, Bwr, Uwr, Ubw, Pas, Flu};
+ghost use Rattle.bus_signals.specs.declared.BusEvent.TheVariants.{Rd, Rfo, Inv, Urd, Bwr, Uwr, Ubw, Pas, Flu, Usw};
 ghost use Rattle.bus_model.specs.DataTable.{Moves, nobody, owner_or_memory, none_takes, memory_and_capturers, owner_or_memory_takes, memory_takes};
 
 /// What the row of each event comes to in its data phase: the source of the words, whether the line
@@ -16,4 +16,5 @@ pub fn data_phases_are_tabled()
     ensures uwr { Moves Uwr nobody false owner_or_memory_takes }
     ensures pas { Moves Pas nobody false memory_takes }
     ensures flu { Moves Flu nobody false memory_takes }
+    ensures usw { Moves Usw owner_or_memory false owner_or_memory_takes }
 {}

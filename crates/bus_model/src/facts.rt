@@ -7,9 +7,10 @@ ghost use Rattle.bus_model.specs.Steps.{Can};
 ghost use Rattle.bus_model.specs.Runs.{Complete};
 ghost use Rattle.bus_model.specs.Entries.{entries, Legal};
 ghost use Rattle.bus_model.specs.Coherence.{LineCoherent, Coherent};
-ghost use Rattle.bus_model.specs.WorkedWords.{write, did, copy};
+ghost use Rattle.bus_model.specs.WorkedWords.{write, swap, did, copy};
 ghost use Rattle.bus_model.specs.WorkedRuns.{intervention, intervention_events, intervention_end, gap, quiet_read_events, between_phases};
 ghost use Rattle.bus_model.specs.WorkedRoom.{given_up, victim_flush};
+ghost use Rattle.bus_model.specs.WorkedSwaps.{held_swap, between_swap};
 ghost use Rattle.bus_model.specs.WorkedFacts.{old_words, new_words, intervention_entries, quiet_read_entries, lost_copy, halfway, bus_taken, both_raised, owned_victim};
 
 /// An owner beside sharers is coherent, and memory may then be stale. Two owners are not, nor is a
@@ -29,11 +30,13 @@ pub fn small_lines_are_judged()
     ensures no_stale_memory { ¬ (LineCoherent (copy 1 0 S new_words 0 ∷ []) old_words new_words) }
 {}
 
-/// None of these is a step: a silent write to a line that is held, a grant to a board other than
-/// the highest, or the drop of a victim that its board owns.
+/// None of these is a step: a silent write or swap to a line that is held, a grant to a board other
+/// than the highest, or the drop of a victim that its board owns.
 pub fn small_steps_are_judged()
     ensures no_write_to_a_held_line { ¬
         (Can gap between_phases (Local 1 E M (did (write 0 9) None))) }
+    ensures no_swap_of_a_held_line { (reply : Option ℕ)
+        → ¬ (Can held_swap between_swap (Local 1 E M (did (swap 0 9) reply))) }
     ensures highest_wins { Can given_up both_raised (Grant 3 1 10 2) }
     ensures no_grant_to_another { (lines rounds : ℕ)
         → ¬ (Can given_up both_raised (Grant 3 3 lines rounds)) }

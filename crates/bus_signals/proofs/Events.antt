@@ -5,7 +5,7 @@ use Rattle.std.specs.Prelude.{◌==◌, slice_get}
 use Rattle.std.specs.List.{list_all, list_any}
 use Rattle.std.proofs.lemmas.Bool.{eqb-true, ltb-true}
 use Rattle.bus_signals.specs.declared.BusEvent.{BusEvent}
-use Rattle.bus_signals.specs.declared.BusEvent.TheVariants.{Rd, Rfo, Inv, Urd, Bwr, Uwr, Ubw, Pas, Flu}
+use Rattle.bus_signals.specs.declared.BusEvent.TheVariants.{Rd, Rfo, Inv, Urd, Bwr, Uwr, Ubw, Pas, Flu, Usw}
 use Rattle.bus_signals.specs.declared.LocalEvent.{LocalEvent}
 use Rattle.bus_signals.specs.Accesses.{local_events, local_number}
 use Rattle.bus_signals.specs.Signals.{bus_events, event_number, same_event}
@@ -22,12 +22,14 @@ bus_listed Uwr = refl
 bus_listed Ubw = refl
 bus_listed Pas = refl
 bus_listed Flu = refl
+bus_listed Usw = refl
 
 pub local_listed : LocalEventsAreListed
 local_listed LocalEvent.Read = refl
 local_listed LocalEvent.Write = refl
 local_listed LocalEvent.Pass = refl
 local_listed LocalEvent.Flush = refl
+local_listed LocalEvent.Swap = refl
 
 -- A test that computes true over all bus events passes at every one.
 pub each_bus : (test : BusEvent → Bool) → list_all test bus_events ≡ true → (event : BusEvent) → test event ≡ true

@@ -1,9 +1,25 @@
 -- What a bus event does, read from its row: from the signals CA, IM and BC, and from what is
 -- transferred.
-use Rattle.std.specs.Prelude.{Bool, not, ◌&&◌, ◌||◌}
+use Rattle.std.specs.Prelude.{Bool, true, false, not, ◌&&◌, ◌||◌}
 use Rattle.bus_signals.specs.declared.Transfer.{Transfer}
 use Rattle.bus_signals.specs.declared.BusEvent.{BusEvent}
 use Rattle.bus_signals.specs.Signals.{row_of, same_transfer}
+
+-- Words come to the master in a read, and where a word goes both ways.
+abbrev pub gives : Transfer → Bool
+gives Transfer.Read = true
+gives Transfer.Word = false
+gives Transfer.Line = false
+gives Transfer.Address = false
+gives Transfer.Both = true
+
+-- A word comes from the master where one is written, and where a word goes both ways.
+abbrev pub takes : Transfer → Bool
+takes Transfer.Read = false
+takes Transfer.Word = true
+takes Transfer.Line = false
+takes Transfer.Address = false
+takes Transfer.Both = true
 
 -- The master asserts CA: it keeps a copy of the line.
 abbrev pub keeps_copy : BusEvent → Bool
@@ -18,13 +34,13 @@ changes_line event = (row_of event).master.im
 abbrev pub broadcasts : BusEvent → Bool
 broadcasts event = (row_of event).master.bc
 
--- A line or a word is read where the transfer is a read.
+-- A line or a word is read where the transfer is a read, or a word both ways.
 abbrev pub reads : BusEvent → Bool
-reads event = same_transfer (row_of event).transfer Transfer.Read
+reads event = gives (row_of event).transfer
 
--- A word is written where the transfer is a word.
+-- A word is written where the transfer is a word, one way or both ways.
 abbrev pub writes_word : BusEvent → Bool
-writes_word event = same_transfer (row_of event).transfer Transfer.Word
+writes_word event = takes (row_of event).transfer
 
 -- The master's whole line is written to memory where the transfer is a line.
 abbrev pub writes_line : BusEvent → Bool
@@ -37,6 +53,10 @@ fills_row event = reads event && keeps_copy event
 -- A plain word, one without BC, goes to the board that asserts DI, or else to memory.
 abbrev pub writes_plain_word : BusEvent → Bool
 writes_plain_word event = writes_word event && not (broadcasts event)
+
+-- A word goes both ways where one is read and one is written.
+abbrev pub goes_both_ways : BusEvent → Bool
+goes_both_ways event = reads event && writes_word event
 
 -- A word bypasses the master's cache where it is written without CA.
 abbrev pub writes_past_cache : BusEvent → Bool

@@ -1,4 +1,4 @@
-//! The nine bus events, and the parts of addresses and accesses.
+//! The ten bus events, and the parts of addresses and accesses.
 
 use super::*;
 
@@ -14,6 +14,7 @@ fn events_have_rows(rt: HostRuntime) {
         (BusEvent::Ubw, false, true, true, Transfer::Word),
         (BusEvent::Pas, true, false, false, Transfer::Line),
         (BusEvent::Flu, false, false, false, Transfer::Line),
+        (BusEvent::Usw, false, true, false, Transfer::Both),
     ];
     for (event, ca, im, bc, transfer) in rows {
         let master = Master { ca, im, bc };
@@ -35,6 +36,7 @@ fn accesses_name_words(rt: HostRuntime) {
         (Access::Write(Addr(5), 9), LocalEvent::Write),
         (Access::Pass(Addr(5)), LocalEvent::Pass),
         (Access::Flush(Addr(5)), LocalEvent::Flush),
+        (Access::Swap(Addr(5), 9), LocalEvent::Swap),
     ];
     for (access, kind) in accesses {
         assert_eq!(rt; access.kind(), kind);

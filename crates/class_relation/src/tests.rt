@@ -31,7 +31,7 @@ fn names_begin_with_a_letter(rt: HostRuntime) {
 #[test]
 fn cells_keep_their_alternatives(rt: HostRuntime) -> Result<(), Fail> {
     let name = Name::of(b"x").ok_or("name")?;
-    let mut table = Table::empty(rt.alloc(), name);
+    let mut table = Table::empty(rt.alloc(), name, 1);
     let read = LocalAction {
         result: Outcome::Fixed(State::I),
         bus: Some(BusEvent::Urd),
@@ -64,6 +64,32 @@ fn cells_keep_their_alternatives(rt: HostRuntime) -> Result<(), Fail> {
         [quiet; 16].as_slice()
     );
     assert!(rt; again.local(State::I, LocalEvent::Write).is_empty());
+    Ok(())
+}
+
+#[test]
+fn swaps_follow_from_writes(rt: HostRuntime) -> Result<(), Fail> {
+    let name = Name::of(b"x").ok_or("name")?;
+    let mut table = Table::empty(rt.alloc(), name, 1);
+    let past = LocalAction {
+        result: Outcome::Fixed(State::I),
+        bus: Some(BusEvent::Uwr),
+    };
+    assert_eq!(rt; table.push_local(State::I, LocalEvent::Write, past), Ok(()));
+    let both = LocalAction {
+        result: Outcome::Fixed(State::I),
+        bus: Some(BusEvent::Usw),
+    };
+    assert_eq!(rt; table.version(), 1);
+    assert!(rt; !table.says_local(LocalEvent::Swap));
+    assert!(rt; !table.says_bus(both.bus));
+    assert_eq!(rt; table.local(State::I, LocalEvent::Swap), [both].as_slice());
+    assert!(rt; table.said_local(State::I, LocalEvent::Swap).is_empty());
+    let name = Name::of(b"y").ok_or("name")?;
+    let mut table = Table::empty(rt.alloc(), name, 2);
+    assert_eq!(rt; table.push_local(State::I, LocalEvent::Write, past), Ok(()));
+    assert!(rt; table.says_answer(BusEvent::Usw));
+    assert!(rt; table.local(State::I, LocalEvent::Swap).is_empty());
     Ok(())
 }
 

@@ -8,9 +8,9 @@ use Rattle.std.proofs.lemmas.Slice.Eq.{bytes_eq-Decides}
 use Rattle.moesi_state.specs.declared.State.{State}
 use Rattle.moesi_state.specs.declared.State.TheVariants.{M, O, E, S, I}
 use Rattle.bus_signals.specs.declared.LocalEvent.{LocalEvent}
-use Rattle.bus_signals.specs.declared.LocalEvent.TheVariants.{Read, Write, Pass, Flush}
+use Rattle.bus_signals.specs.declared.LocalEvent.TheVariants.{Read, Write, Pass, Flush, Swap}
 use Rattle.bus_signals.specs.declared.BusEvent.{BusEvent}
-use Rattle.bus_signals.specs.declared.BusEvent.TheVariants.{Rd, Rfo, Inv, Urd, Bwr, Uwr, Ubw, Pas, Flu}
+use Rattle.bus_signals.specs.declared.BusEvent.TheVariants.{Rd, Rfo, Inv, Urd, Bwr, Uwr, Ubw, Pas, Flu, Usw}
 use Rattle.moesi_state.specs.declared.Outcome.{Outcome}
 use Rattle.moesi_state.specs.declared.Outcome.TheVariants.{Fixed, OnHit}
 use Rattle.class_words.specs.Words.{state_word, local_event_word, bus_event_word, outcome_word, state_of, local_event_of, bus_event_of, on_hit, is_on_hit, outcome_of, Reads}
@@ -40,7 +40,8 @@ unfolding local_event_of
 local_event_is w v e =
     tried local_event_word w Read v _
     (tried local_event_word w Write v _
-    (tried local_event_word w Pass v _ (tried local_event_word w Flush v _ (nothing local_event_word w v)))) e
+    (tried local_event_word w Pass v _
+    (tried local_event_word w Flush v _ (tried local_event_word w Swap v _ (nothing local_event_word w v))))) e
 
 pub bus_event_is : (w : List ℕ) (e : BusEvent) → bus_event_of w ≡ Some e → w ≡ bus_event_word e
 unfolding bus_event_of
@@ -50,7 +51,8 @@ bus_event_is w v e =
     (tried bus_event_word w Inv v _ (tried bus_event_word w Urd v _ (tried bus_event_word w Bwr v _
     (tried bus_event_word w Uwr v _
     (tried bus_event_word w Ubw v _
-    (tried bus_event_word w Pas v _ (tried bus_event_word w Flu v _ (nothing bus_event_word w v))))))))) e
+    (tried bus_event_word w Pas v _
+    (tried bus_event_word w Flu v _ (tried bus_event_word w Usw v _ (nothing bus_event_word w v)))))))))) e
 
 pub state_again : (s : State) → state_of (state_word s) ≡ Some s
 unfolding state_of
@@ -66,6 +68,7 @@ local_event_again Read = refl
 local_event_again Write = refl
 local_event_again Pass = refl
 local_event_again Flush = refl
+local_event_again Swap = refl
 
 pub bus_event_again : (e : BusEvent) → bus_event_of (bus_event_word e) ≡ Some e
 unfolding bus_event_of
@@ -78,6 +81,7 @@ bus_event_again Uwr = refl
 bus_event_again Ubw = refl
 bus_event_again Pas = refl
 bus_event_again Flu = refl
+bus_event_again Usw = refl
 
 -- A word that passes the test is the one that it is compared with.
 is_word : (w v : List ℕ) → bytes_eq w v ≡ true → w ≡ v

@@ -5,9 +5,9 @@ use Rattle.std.specs.Str.{bytes_eq}
 use Rattle.moesi_state.specs.declared.State.{State}
 use Rattle.moesi_state.specs.declared.State.TheVariants.{M, O, E, S, I}
 use Rattle.bus_signals.specs.declared.LocalEvent.{LocalEvent}
-use Rattle.bus_signals.specs.declared.LocalEvent.TheVariants.{Read, Write, Pass, Flush}
+use Rattle.bus_signals.specs.declared.LocalEvent.TheVariants.{Read, Write, Pass, Flush, Swap}
 use Rattle.bus_signals.specs.declared.BusEvent.{BusEvent}
-use Rattle.bus_signals.specs.declared.BusEvent.TheVariants.{Rd, Rfo, Inv, Urd, Bwr, Uwr, Ubw, Pas, Flu}
+use Rattle.bus_signals.specs.declared.BusEvent.TheVariants.{Rd, Rfo, Inv, Urd, Bwr, Uwr, Ubw, Pas, Flu, Usw}
 use Rattle.moesi_state.specs.declared.Outcome.{Outcome}
 use Rattle.moesi_state.specs.declared.Outcome.TheVariants.{Fixed, OnHit}
 
@@ -25,6 +25,7 @@ local_event_word Read = codes "read"
 local_event_word Write = codes "write"
 local_event_word Pass = codes "pass"
 local_event_word Flush = codes "flush"
+local_event_word Swap = codes "swap"
 
 -- The word of a bus event.
 abbrev pub bus_event_word : BusEvent → List ℕ
@@ -37,6 +38,7 @@ bus_event_word Uwr = codes "uwr"
 bus_event_word Ubw = codes "ubw"
 bus_event_word Pas = codes "pas"
 bus_event_word Flu = codes "flu"
+bus_event_word Usw = codes "usw"
 
 -- The word of an outcome: a state, or two where it waits for the other boards.
 abbrev pub outcome_word : Outcome → List ℕ
@@ -58,7 +60,8 @@ local_event_of w =
     if bytes_eq w (codes "read") then Some Read else
     (if bytes_eq w (codes "write") then Some Write else
     (if bytes_eq w (codes "pass") then Some Pass else
-    (if bytes_eq w (codes "flush") then Some Flush else None)))
+    (if bytes_eq w (codes "flush") then Some Flush else
+    (if bytes_eq w (codes "swap") then Some Swap else None))))
 
 -- The bus event that a word spells.
 unfoldable pub bus_event_of : List ℕ → Option BusEvent
@@ -71,7 +74,8 @@ bus_event_of w =
     (if bytes_eq w (codes "uwr") then Some Uwr else
     (if bytes_eq w (codes "ubw") then Some Ubw else
     (if bytes_eq w (codes "pas") then Some Pas else
-    (if bytes_eq w (codes "flu") then Some Flu else None))))))))
+    (if bytes_eq w (codes "flu") then Some Flu else
+    (if bytes_eq w (codes "usw") then Some Usw else None)))))))))
 
 -- The outcome of two states, where both are there.
 abbrev pub on_hit : Option State → Option State → Option Outcome

@@ -63,6 +63,8 @@ fn found_local_event(word: &[u8]) -> Option<LocalEvent>
         Some(LocalEvent::Pass)
     } else if is(word, "flush") {
         Some(LocalEvent::Flush)
+    } else if is(word, "swap") {
+        Some(LocalEvent::Swap)
     } else {
         None
     }
@@ -99,6 +101,8 @@ fn found_bus_event(word: &[u8]) -> Option<BusEvent>
         Some(BusEvent::Pas)
     } else if is(word, "flu") {
         Some(BusEvent::Flu)
+    } else if is(word, "usw") {
+        Some(BusEvent::Usw)
     } else {
         None
     }

@@ -27,6 +27,7 @@ fn events_are_read_and_written(rt: HostRuntime) {
         (LocalEvent::Write, "write"),
         (LocalEvent::Pass, "pass"),
         (LocalEvent::Flush, "flush"),
+        (LocalEvent::Swap, "swap"),
     ];
     for (event, word) in local {
         assert_eq!(rt; local_event_text(event), word);
@@ -43,6 +44,7 @@ fn events_are_read_and_written(rt: HostRuntime) {
         (BusEvent::Ubw, "ubw"),
         (BusEvent::Pas, "pas"),
         (BusEvent::Flu, "flu"),
+        (BusEvent::Usw, "usw"),
     ];
     for (event, word) in bus {
         assert_eq!(rt; bus_event_text(event), word);

@@ -30,6 +30,7 @@ pub fn local_event_text(event: LocalEvent) -> &'static str
         LocalEvent::Write => "write",
         LocalEvent::Pass => "pass",
         LocalEvent::Flush => "flush",
+        LocalEvent::Swap => "swap",
     }
 }
 
@@ -48,5 +49,6 @@ pub fn bus_event_text(event: BusEvent) -> &'static str
         BusEvent::Ubw => "ubw",
         BusEvent::Pas => "pas",
         BusEvent::Flu => "flu",
+        BusEvent::Usw => "usw",
     }
 }

@@ -30,6 +30,16 @@ source_by :
 source_by true answers h = refl
 source_by false answers h = cc
 
+source_by_none :
+    (reading : Bool) (answers : List Answer) → reading ≡ false
+    → (if reading then intervener_or_memory (intervener answers) else Nobody) ≡ Nobody
+source_by_none true answers h = cc
+source_by_none false answers h = refl
+
+-- Where words are not read nobody but the master gives any.
+pub source_of_none : (event : BusEvent) (answers : List Answer) → reads event ≡ false → source_of event answers ≡ Nobody
+source_of_none event answers h = source_by_none (reads event) answers h
+
 -- A read gets the words from the owner, if there is one, or else from memory, and an owner serves it.
 pub source_of_reads :
     (event : BusEvent) (answers : List Answer) → reads event ≡ true
@@ -103,16 +113,17 @@ memory_by_read true plain false answers h = cc
 memory_by_read false true false answers h = cc
 memory_by_read false false false answers h = refl
 
--- Memory takes nothing in a read.
+-- Memory takes nothing where words are read and none is written.
 pub memory_of_read :
-    (event : BusEvent) (answers : List Answer) → reads event ≡ true → (takers_of event answers).memory ≡ false
-memory_of_read event answers h =
+    (event : BusEvent) (answers : List Answer) → reads event ≡ true → is_writing event ≡ false
+    → (takers_of event answers).memory ≡ false
+memory_of_read event answers h quiet =
     memory_by_read (broadcasts event) (writes_plain_word event) (writes_line event) answers
-    (implies-use (reads event) _
+    (implies-both (reads event) (not (is_writing event)) _
     (each_bus (λ event.
-    implies (reads event)
+    implies (reads event && not (is_writing event))
     (not (writes_line event) && (not (broadcasts event) && not (writes_plain_word event)))) refl event)
-    h)
+    h (not_from_false (is_writing event) quiet))
 
 boards_by_word :
     (word plain line : Bool) (answers : List Answer) → word ≡ true

@@ -62,6 +62,8 @@ same_access (access.Write a v) (access.Write b w) =
     known_as (λ h. λ i. access.Write (h.0 i) (h.1 i)) (λ h. (cc, cc)) (known_both (same_number a b) (same_number v w))
 same_access (access.Pass a) (access.Pass b) = known_as (λ h. ap access.Pass h) (λ h. cc) (same_number a b)
 same_access (access.Flush a) (access.Flush b) = known_as (λ h. ap access.Flush h) (λ h. cc) (same_number a b)
+same_access (access.Swap a v) (access.Swap b w) =
+    known_as (λ h. λ i. access.Swap (h.0 i) (h.1 i)) (λ h. (cc, cc)) (known_both (same_number a b) (same_number v w))
 same_access (access.Read a) (access.Write b w) = inr (λ h. cc)
 same_access (access.Read a) (access.Pass b) = inr (λ h. cc)
 same_access (access.Read a) (access.Flush b) = inr (λ h. cc)
@@ -74,6 +76,14 @@ same_access (access.Pass a) (access.Flush b) = inr (λ h. cc)
 same_access (access.Flush a) (access.Read b) = inr (λ h. cc)
 same_access (access.Flush a) (access.Write b w) = inr (λ h. cc)
 same_access (access.Flush a) (access.Pass b) = inr (λ h. cc)
+same_access (access.Read a) (access.Swap b w) = inr (λ h. cc)
+same_access (access.Write a v) (access.Swap b w) = inr (λ h. cc)
+same_access (access.Pass a) (access.Swap b w) = inr (λ h. cc)
+same_access (access.Flush a) (access.Swap b w) = inr (λ h. cc)
+same_access (access.Swap a v) (access.Read b) = inr (λ h. cc)
+same_access (access.Swap a v) (access.Write b w) = inr (λ h. cc)
+same_access (access.Swap a v) (access.Pass b) = inr (λ h. cc)
+same_access (access.Swap a v) (access.Flush b) = inr (λ h. cc)
 
 pub same_done : Testable Done
 same_done a b =

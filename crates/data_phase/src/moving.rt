@@ -44,8 +44,10 @@ fn change_by(access: &Access) -> Change
     ensures { result ≡ change_by access.now }
 {
     match access {
-        Access::Write(addr, value) => Change::Word(number_of(*addr), *value),
-        _ => Change::Keep,
+        Access::Write(addr, value) | Access::Swap(addr, value) => {
+            Change::Word(number_of(*addr), *value)
+        }
+        Access::Read(_) | Access::Pass(_) | Access::Flush(_) => Change::Keep,
     }
 }
 

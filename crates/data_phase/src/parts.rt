@@ -13,8 +13,8 @@ use journal::{Connected, Done, Places, Source, States, Takers};
 use memory_board::MemoryBoard;
 use moesi_state::State;
 
-/// Where the words of a transaction come from: a read gets them from the board that asserts DI, or
-/// else from memory.
+/// Where the words of a transaction come from: where words are read they come from the board that
+/// asserts DI, or else from memory.
 pub fn carried_source(connected: &Connected) -> Source
     ensures { result ≡ source_of connected.now.event connected.now.answers }
 {
@@ -120,17 +120,17 @@ pub fn copy_words(rack: &Rack, board: BoardNo, line: LineNo) -> [u32; 4]
     }
 }
 
-/// A line after an access: a write sets one word.
+/// A line after an access: a write and a swap set one word.
 pub fn written(access: &Access, words: [u32; 4]) -> [u32; 4]
     ensures { result ≡ written access.now words }
 {
     match access {
-        Access::Write(addr, value) => {
+        Access::Write(addr, value) | Access::Swap(addr, value) => {
             let mut words = words;
             words[addr.offset() as usize] = *value;
             words
         }
-        _ => words,
+        Access::Read(_) | Access::Pass(_) | Access::Flush(_) => words,
     }
 }
 
@@ -144,7 +144,7 @@ pub fn written_by(done: &Option<Done>, words: [u32; 4]) -> [u32; 4]
     }
 }
 
-/// The access that a data phase completes, with the word that was moved as the reply of a read.
+/// The access that a data phase completes. A read and a swap reply the word that was moved.
 pub fn done_for(access: Option<Access>, line: LineNo, words: [u32; 4]) -> Option<Done>
     ensures { result ≡ done_of access line words }
 {
@@ -155,8 +155,8 @@ pub fn done_for(access: Option<Access>, line: LineNo, words: [u32; 4]) -> Option
                 return None;
             }
             let reply = match access {
-                Access::Read(addr) => Some(words[addr.offset() as usize]),
-                _ => None,
+                Access::Read(addr) | Access::Swap(addr, _) => Some(words[addr.offset() as usize]),
+                Access::Write(_, _) | Access::Pass(_) | Access::Flush(_) => None,
             };
             Some(Done { access, reply })
         }

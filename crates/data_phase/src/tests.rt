@@ -19,7 +19,7 @@ use table_check::{BoardSpec, Choose, Shape, accept};
 
 /// A write-through table.
 fn write_through(alloc: Global, name: Name) -> Result<Table, Fail> {
-    let mut table = Table::empty(alloc, name);
+    let mut table = Table::empty(alloc, name, 1);
     let locals = [
         (State::S, LocalEvent::Read, State::S, None),
         (State::S, LocalEvent::Write, State::S, Some(BusEvent::Uwr)),
@@ -31,6 +31,9 @@ fn write_through(alloc: Global, name: Name) -> Result<Table, Fail> {
         (State::I, LocalEvent::Flush, State::I, None),
     ];
     for (state, event, next, bus) in locals {
+        if !table.says_local(event) || !table.says_bus(bus) {
+            return Err(Fail::from("a swap"));
+        }
         let result = Outcome::Fixed(next);
         table.push_local(state, event, LocalAction { result, bus })?;
     }
@@ -46,6 +49,9 @@ fn write_through(alloc: Global, name: Name) -> Result<Table, Fail> {
         (BusEvent::Flu, State::S, false, false),
     ];
     for (event, result, ch, sl) in answers {
+        if !table.says_answer(event) {
+            return Err(Fail::from("a swap"));
+        }
         let response = Response { ch, di: false, sl };
         table.push_snoop(State::S, event, SnoopAction { result, response })?;
     }

@@ -10,7 +10,7 @@ use crate::seen::{Phase, Seen};
 use crate::shown::show_line;
 use crate::spelled::say_data_line;
 use backplane::Machine;
-use bus_signals::{Access, BoardNo, LineNo};
+use bus_signals::{Access, Addr, BoardNo, LineNo};
 use class_words::state_text;
 use fb_text::Text;
 use moesi_state::State;
@@ -103,6 +103,14 @@ fn takes(machine: &mut Machine, line: &[u8]) -> bool {
     }
 }
 
+/// The address of the word that an access gives, if it gives one.
+fn address_of_reply(access: &Access) -> Option<Addr> {
+    match access {
+        Access::Read(addr) | Access::Swap(addr, _) => Some(*addr),
+        Access::Write(_, _) | Access::Pass(_) | Access::Flush(_) => None,
+    }
+}
+
 /// Appends the reply of an access, where it reads a word of the board's copy.
 fn say_reply(
     text: &mut Text,
@@ -110,10 +118,10 @@ fn say_reply(
     board: BoardNo,
     access: &Access,
 ) -> Result<(), NoMemory> {
-    let Access::Read(addr) = access else {
+    let Some(addr) = address_of_reply(access) else {
         return Ok(());
     };
-    match seen.word(board, *addr) {
+    match seen.word(board, addr) {
         Some(word) => counted(text, " = ", u64::from(word), ""),
         None => Ok(()),
     }

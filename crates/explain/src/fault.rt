@@ -21,14 +21,17 @@ pub enum Wanted {
     Name,
     /// A cell of a table, or its end.
     Cell,
-    /// The access or the bus event of a cell.
-    Event,
+    /// The version of a table, or the end of the line.
+    Version,
+    /// The access or the bus event of a cell, in a table of this version.
+    Event { version: u8 },
     /// The state of an answer.
     State,
     /// The result of an access.
     Outcome,
-    /// After the result of an access: its bus event, or another alternative.
-    BusEventOrBar,
+    /// After the result of an access: its bus event, in a table of this version, or another
+    /// alternative.
+    BusEventOrBar { version: u8 },
     /// After the state of an answer: its signals, or another alternative.
     SignalOrBar,
     /// Another alternative, or the end of the line.
@@ -49,6 +52,7 @@ pub enum Wanted {
 #[derive(Clone, Copy)]
 pub enum Quantity {
     Lines,
+    Version,
     Address,
     Value,
     Place,

@@ -9,6 +9,7 @@ use no_memory::NoMemory;
 fn quantity(of: Quantity) -> &'static str {
     match of {
         Quantity::Lines => "the number of lines of memory",
+        Quantity::Version => "the version of the table",
         Quantity::Address => "an address of this memory",
         Quantity::Value => "a value",
         Quantity::Place => "the place of the next board",
@@ -31,6 +32,9 @@ pub fn say_range(text: &mut Text, of: Quantity, least: u64, most: u64) -> Result
             least,
             ": boards are numbered in order.\n",
         );
+    }
+    if matches!(of, Quantity::Version) {
+        return counted(text, ", which is ", least, ": version 1 is not written.\n");
     }
     counted(text, ", a number from ", least, "")?;
     counted(text, " to ", most, ".\n")

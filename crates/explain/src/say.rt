@@ -67,5 +67,9 @@ pub fn say_access(text: &mut Text, access: &Access) -> Result<(), NoMemory> {
         }
         Access::Pass(addr) => counted(text, "pass ", u64::from(addr.0), ""),
         Access::Flush(addr) => counted(text, "flush ", u64::from(addr.0), ""),
+        Access::Swap(addr, value) => {
+            counted(text, "swap ", u64::from(addr.0), " ")?;
+            number(text, u64::from(*value))
+        }
     }
 }

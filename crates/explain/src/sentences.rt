@@ -4,7 +4,7 @@ use crate::fault::{Fault, Spot, Wanted, Why};
 use crate::nearest::say_guess;
 use crate::numbers::{say_number, say_range};
 use crate::say::{choices, counted, put, say};
-use crate::wanted::{hint, name_of, words_of};
+use crate::wanted::{hint, is_of_version_2, name_of, words_of};
 use fb_text::Text;
 use no_memory::NoMemory;
 use setup_text::LimitOf;
@@ -41,7 +41,9 @@ fn say_expected(text: &mut Text, found: Option<&[u8]>, wanted: Wanted) -> Result
     say(text, ".\n")?;
     match found {
         Some(word) => {
-            say_guess(text, word, words)?;
+            if !is_of_version_2(wanted, word) {
+                say_guess(text, word, words)?;
+            }
             say(text, hint(wanted, word))
         }
         None => Ok(()),

@@ -240,7 +240,7 @@ fn access_line<'a>(
         return Err(at(reader, Some(word), limit));
     }
     draft.accesses = draft.accesses.saturating_add(1);
-    if matches!(event, LocalEvent::Write) {
+    if matches!(event, LocalEvent::Write | LocalEvent::Swap) {
         return value_line(reader, draft.words);
     }
     address(reader, draft.words)?;

@@ -53,7 +53,7 @@ fn say_states(text: &mut Text, states: &States) -> Result<(), NoMemory> {
     Ok(())
 }
 
-/// Appends the reply to a read.
+/// Appends the reply to a read or a swap.
 fn say_reply(text: &mut Text, reply: Option<u32>) -> Result<(), NoMemory> {
     match reply {
         Some(word) => counted(text, " = ", u64::from(word), ""),

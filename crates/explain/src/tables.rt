@@ -1,7 +1,7 @@
 //! The tables of a text, in the order of their lines.
 
-use crate::fault::{Stop, Wanted, Why, at, at_text_end};
-use crate::line::{line_end, name, some_word, this_word};
+use crate::fault::{Quantity, Stop, Wanted, Why, at, at_text_end};
+use crate::line::{line_end, name, number, some_word, this_word};
 use crate::nearest::is_near;
 use crate::reader::{Reader, Word};
 use bus_signals::{BusEvent, LocalEvent};
@@ -17,6 +17,7 @@ use std::alloc::Global;
 pub struct Known<'a> {
     pub name: &'a [u8],
     pub line: u32,
+    pub version: u8,
     /// The first line that leads from I to another state.
     pub leaves: Option<u32>,
 }
@@ -79,10 +80,11 @@ impl<'a> Tables<'a> {
             let twice = Why::TwiceName { line: earlier.line };
             return Err(at(reader, Some(name), twice));
         }
-        line_end(reader)?;
+        let version = version(reader)?;
         let mut known = Known {
             name: name.bytes,
             line,
+            version,
             leaves: None,
         };
         cells(self.alloc, reader, &mut known)?;
@@ -91,6 +93,20 @@ impl<'a> Tables<'a> {
             Err(_) => Err(Stop::NoMemory),
         }
     }
+}
+
+/// Reads the version of a table, which is what stands after its name.
+fn version<'a>(reader: &mut Reader<'a>) -> Result<u8, Stop<'a>> {
+    let word = reader.next_word();
+    let Some(found) = word else {
+        return Ok(1);
+    };
+    if !is(found.bytes, "version") {
+        return Err(at(reader, word, Why::Expected(Wanted::Version)));
+    }
+    number(reader, Quantity::Version, 2, 2)?;
+    line_end(reader)?;
+    Ok(2)
 }
 
 /// Reads the cells of a table, to its end.
@@ -127,16 +143,19 @@ fn cell_line<'a>(
     let Some(state) = state_of(first.bytes) else {
         return Err(at(reader, Some(first), no_cell(known, first)));
     };
-    let word = some_word(reader, Wanted::Event)?;
-    let Some(cell) = cell_of(state, word.bytes) else {
-        return Err(at(reader, Some(word), Why::Expected(Wanted::Event)));
+    let wanted = Wanted::Event {
+        version: known.version,
+    };
+    let word = some_word(reader, wanted)?;
+    let Some(cell) = cell_of(known.version, state, word.bytes) else {
+        return Err(at(reader, Some(word), Why::Expected(wanted)));
     };
     if let Some(earlier) = given.iter().find(|other| other.cell == cell) {
         let twice = Why::TwiceCell { line: earlier.line };
         return Err(at(reader, Some(word), twice));
     }
     this_word(reader, "=")?;
-    let leaves = alternatives(reader, cell)?;
+    let leaves = alternatives(reader, known.version, cell)?;
     let line = reader.line();
     if known.leaves.is_none() && leaves && !state.holds() {
         known.leaves = Some(line);
@@ -164,23 +183,33 @@ fn begins_part(word: &[u8]) -> bool {
     is(word, "table") || is(word, "board") || is(word, "word") || is(word, "memory")
 }
 
-/// The cell of a state and of the access or the event that a word spells.
-pub fn cell_of(state: State, word: &[u8]) -> Option<Cell> {
-    if let Some(event) = local_event_of(word) {
-        return Some(Cell::Local(state, event));
-    }
+/// The bus event that a word spells in a table of a version.
+fn bus_event_in(version: u8, word: &[u8]) -> Option<BusEvent> {
     match bus_event_of(word) {
+        Some(BusEvent::Usw) if version == 1 => None,
+        event => event,
+    }
+}
+
+/// The cell of a state and of the access or the event that a word spells, in a table of a version.
+pub fn cell_of(version: u8, state: State, word: &[u8]) -> Option<Cell> {
+    match local_event_of(word) {
+        Some(LocalEvent::Swap) if version == 1 => return None,
+        Some(event) => return Some(Cell::Local(state, event)),
+        None => {}
+    }
+    match bus_event_in(version, word) {
         Some(event) => Some(Cell::Answer(state, event)),
         None => None,
     }
 }
 
 /// Reads the alternatives of a cell. Whether one of them leads to a state other than I.
-fn alternatives<'a>(reader: &mut Reader<'a>, cell: Cell) -> Result<bool, Stop<'a>> {
+fn alternatives<'a>(reader: &mut Reader<'a>, version: u8, cell: Cell) -> Result<bool, Stop<'a>> {
     let mut leaves = false;
     let mut first = true;
     for _ in 0..16u32 {
-        let (leads, more) = alternative(reader, cell, first)?;
+        let (leads, more) = alternative(reader, version, cell, first)?;
         leaves = leaves || leads;
         if !more {
             return Ok(leaves);
@@ -232,6 +261,7 @@ fn leads_away(cell: Cell, word: &[u8]) -> Option<bool> {
 /// Reads an alternative. Whether it leads to a state other than I, and whether another follows.
 fn alternative<'a>(
     reader: &mut Reader<'a>,
+    version: u8,
     cell: Cell,
     first: bool,
 ) -> Result<(bool, bool), Stop<'a>> {
@@ -248,14 +278,14 @@ fn alternative<'a>(
         return Err(at(reader, word, Why::Expected(wanted_result(cell))));
     };
     let more = match cell {
-        Cell::Local(_, _) => after_outcome(reader)?,
+        Cell::Local(_, _) => after_outcome(reader, version)?,
         Cell::Answer(_, _) => after_state(reader)?,
     };
     Ok((leads, more))
 }
 
 /// Reads what follows the result of an access. Whether another alternative follows.
-fn after_outcome<'a>(reader: &mut Reader<'a>) -> Result<bool, Stop<'a>> {
+fn after_outcome<'a>(reader: &mut Reader<'a>, version: u8) -> Result<bool, Stop<'a>> {
     let word = reader.next_word();
     let Some(found) = word else {
         return Ok(false);
@@ -263,8 +293,9 @@ fn after_outcome<'a>(reader: &mut Reader<'a>) -> Result<bool, Stop<'a>> {
     if is(found.bytes, "|") {
         return Ok(true);
     }
-    if bus_event_of(found.bytes).is_none() {
-        return Err(at(reader, word, Why::Expected(Wanted::BusEventOrBar)));
+    if bus_event_in(version, found.bytes).is_none() {
+        let wanted = Wanted::BusEventOrBar { version };
+        return Err(at(reader, word, Why::Expected(wanted)));
     }
     let after = reader.next_word();
     bar(reader, after, Why::Expected(Wanted::Bar))

@@ -59,7 +59,7 @@ fn line_of(bytes: &[u8], table: &Table, cell: Cell) -> Option<u32> {
         let first = reader.next_word()?;
         let state = state_of(first.bytes)?;
         let event = reader.next_word()?;
-        if cell_of(state, event.bytes) == Some(cell) {
+        if cell_of(table.version(), state, event.bytes) == Some(cell) {
             return Some(reader.line());
         }
     }
@@ -130,6 +130,7 @@ fn near_access(cell: Cell) -> Option<(State, LocalEvent)> {
     match cell {
         Cell::Answer(state, BusEvent::Pas) => Some((state, LocalEvent::Pass)),
         Cell::Answer(state, BusEvent::Flu) => Some((state, LocalEvent::Flush)),
+        Cell::Answer(state, BusEvent::Usw) => Some((state, LocalEvent::Swap)),
         _ => None,
     }
 }

@@ -15,9 +15,9 @@ pub use Rattle.fb_cli.specs.Replay.{run_text, ending, replay_refusal, IsEnding}
 
 -- What holds of a complete run of a setup with these events: its tables are in the class, each
 -- event is a step and has its line, its text is not too long to be replayed, each script is done
--- whole, once and in order, each read gives the latest earlier write, after each event the
--- configuration is sound, which includes that no line has two owners or a shared exclusive copy,
--- and each grant is won by the highest number that competes.
+-- whole, once and in order, each read and each swap gives the latest earlier write, after each
+-- event the configuration is sound, which includes that no line has two owners or a shared
+-- exclusive copy, and each grant is won by the highest number that competes.
 pub record RunHolds (setup : Setup) (events : List Event) : Type 0 where
   pub accepted : AllInClass setup
   pub run : Run setup events (after_all (opening setup) events)

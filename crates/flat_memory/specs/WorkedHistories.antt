@@ -18,6 +18,13 @@ write_and_read value reply =
     ∷ record { board = 2; place = 1; access = Access.Read 1; reply = Some reply }
     ∷ []
 
+-- Boards 1 and 2 swap the word 1 into the address 1, and get these replies.
+abbrev pub two_swaps : ℕ → ℕ → List Entry
+two_swaps first second =
+    record { board = 1; place = 1; access = Access.Swap 1 1; reply = Some first }
+    ∷ record { board = 2; place = 1; access = Access.Swap 1 1; reply = Some second }
+    ∷ []
+
 -- Board 1 writes the words 7 and 8 to the address 1, and board 2 then reads the address and gets
 -- this reply.
 abbrev pub two_writes_and_read : ℕ → List Entry

@@ -10,5 +10,7 @@ fn a_read_gives_the_last_write(rt: HostRuntime) -> Result<(), Fail> {
     assert_eq!(rt; flat.apply(Access::Write(Addr(1), 5)), None);
     assert_eq!(rt; flat.apply(Access::Read(Addr(1))), Some(5));
     assert_eq!(rt; flat.apply(Access::Pass(Addr(1))), None);
+    assert_eq!(rt; flat.apply(Access::Swap(Addr(1), 6)), Some(5));
+    assert_eq!(rt; flat.apply(Access::Read(Addr(1))), Some(6));
     Ok(())
 }

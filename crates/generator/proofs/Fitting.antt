@@ -10,7 +10,7 @@ use Rattle.bus_signals.specs.declared.Access.{Access}
 use Rattle.bus_signals.specs.Accesses.{address_of}
 use Rattle.moesi_state.specs.declared.State.{State}
 use Rattle.moesi_state.specs.declared.State.TheVariants.{M, O, E, S, I}
-use Rattle.class_relation.specs.Tables.{Table, empty_table}
+use Rattle.class_relation.specs.Tables.{Table, no_table}
 use Rattle.table_check.specs.Reached.{leads_to, IsPath}
 use Rattle.table_check.specs.Accepted.{InClass}
 use Rattle.table_check.proofs.KnownTables.{copy_back_accepted, copy_back_update_accepted, write_through_accepted, uncached_accepted, whole_class_accepted}
@@ -37,7 +37,7 @@ path_stays (next ∷ rest) last is =
 
 -- ---- the boards
 
-shape_fits : (table : ℕ) → table < 5 → ShapeFits (get_or generated_tables table (empty_table [])) (shape_of_table table)
+shape_fits : (table : ℕ) → table < 5 → ShapeFits (get_or generated_tables table no_table) (shape_of_table table)
 shape_fits zero less = (omega arith, omega arith, omega arith)
 shape_fits (suc zero) less = (omega arith, omega arith, omega arith)
 shape_fits (suc (suc zero)) less = (omega arith, omega arith, omega arith)

@@ -8,7 +8,7 @@ use Rattle.generator.specs.declared.tables.TheConstants.{COPY_BACK_LOCALS, INVAL
 
 -- A copy-back table without writes to lines that others may hold.
 abbrev pub copy_back_start : List ℕ → Table
-copy_back_start name = with_answer_rows (with_local_rows (empty_table name) COPY_BACK_LOCALS) COPY_BACK_ANSWERS
+copy_back_start name = with_answer_rows (with_local_rows (empty_table name 1) COPY_BACK_LOCALS) COPY_BACK_ANSWERS
 
 pub copy_back_made : with_local_rows (copy_back_start (codes "cb")) INVALIDATING_WRITES ≡ copy_back
 copy_back_made = refl
@@ -17,15 +17,15 @@ pub copy_back_update_made : with_local_rows (copy_back_start (codes "up")) UPDAT
 copy_back_update_made = refl
 
 pub write_through_made :
-    with_answer_rows (with_local_rows (empty_table (codes "wt")) WRITE_THROUGH_LOCALS) WRITE_THROUGH_ANSWERS
+    with_answer_rows (with_local_rows (empty_table (codes "wt") 1) WRITE_THROUGH_LOCALS) WRITE_THROUGH_ANSWERS
     ≡ write_through
 write_through_made = refl
 
-pub uncached_made : with_answer_rows (with_local_rows (empty_table (codes "un")) UNCACHED_LOCALS) [] ≡ uncached
+pub uncached_made : with_answer_rows (with_local_rows (empty_table (codes "un") 1) UNCACHED_LOCALS) [] ≡ uncached
 uncached_made = refl
 
 pub whole_class_made :
-    with_answer_rows (with_local_rows (empty_table (codes "class")) CLASS_LOCALS) CLASS_ANSWERS ≡ whole_class
+    with_answer_rows (with_local_rows (empty_table (codes "class") 1) CLASS_LOCALS) CLASS_ANSWERS ≡ whole_class
 whole_class_made = refl
 
 -- A result that equals one of two equal tables equals the other.

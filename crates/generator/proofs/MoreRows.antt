@@ -1,11 +1,10 @@
 -- Rows added one after another.
 use Rattle.std.proofs.Common.{◌≡◌, ℕ, suc, ◌+◌, ◌<◌, Bool, true, false, ◌&&◌, List, [], ◌∷◌, ◌++◌, length, take, drop, get_or, refl, sym, ap, ◌∙◌, add-one, drop-cons}
-use Rattle.std.specs.Prelude.{nat_lt}
 use Rattle.std.proofs.lemmas.List.{take_more}
-use Rattle.class_relation.specs.Tables.{Table, locals_of, answers_of, most_alternatives}
+use Rattle.class_relation.specs.Tables.{Table}
 use Rattle.generator.specs.declared.rows.LocalRow.{LocalRow}
 use Rattle.generator.specs.declared.rows.AnswerRow.{AnswerRow}
-use Rattle.generator.specs.Tables.{with_local_row, with_answer_row, with_local_rows, with_answer_rows, local_rows_fit, answer_rows_fit}
+use Rattle.generator.specs.Tables.{with_local_row, with_answer_row, with_local_rows, with_answer_rows, local_row_fits, answer_row_fits, local_rows_fit, answer_rows_fit}
 
 both_first : (a b : Bool) → a && b ≡ true → a && true ≡ true
 both_first true b h = refl
@@ -35,7 +34,7 @@ pub local_first_fits : (table : Table) (rows : List LocalRow) (i : ℕ) (d : Loc
     → i < length rows → local_rows_fit table (drop i rows) ≡ true → local_rows_fit table (get_or rows i d ∷ []) ≡ true
 local_first_fits table rows i d within fits =
     let row = get_or rows i d in
-    both_first (nat_lt (length (locals_of table row.0 row.1)) most_alternatives)
+    both_first (local_row_fits table row)
     (local_rows_fit (with_local_row table row) (drop (suc i) rows))
     (ap (local_rows_fit table) (sym (drop-cons rows i d within)) ∙ fits)
 
@@ -46,7 +45,7 @@ local_rest_fits table next rows i d within fits added =
     let row = get_or rows i d in
     ap (λ (t : Table). local_rows_fit t (drop (i + 1) rows)) added
     ∙ ap (λ n. local_rows_fit (with_local_row table row) (drop n rows)) (add-one i)
-    ∙ both_second (nat_lt (length (locals_of table row.0 row.1)) most_alternatives)
+    ∙ both_second (local_row_fits table row)
     (local_rows_fit (with_local_row table row) (drop (suc i) rows))
     (ap (local_rows_fit table) (sym (drop-cons rows i d within)) ∙ fits)
 
@@ -70,7 +69,7 @@ pub answer_first_fits : (table : Table) (rows : List AnswerRow) (i : ℕ) (d : A
     → i < length rows → answer_rows_fit table (drop i rows) ≡ true → answer_rows_fit table (get_or rows i d ∷ []) ≡ true
 answer_first_fits table rows i d within fits =
     let row = get_or rows i d in
-    both_first (nat_lt (length (answers_of table row.0 row.1)) most_alternatives)
+    both_first (answer_row_fits table row)
     (answer_rows_fit (with_answer_row table row) (drop (suc i) rows))
     (ap (answer_rows_fit table) (sym (drop-cons rows i d within)) ∙ fits)
 
@@ -81,6 +80,6 @@ answer_rest_fits table next rows i d within fits added =
     let row = get_or rows i d in
     ap (λ (t : Table). answer_rows_fit t (drop (i + 1) rows)) added
     ∙ ap (λ n. answer_rows_fit (with_answer_row table row) (drop n rows)) (add-one i)
-    ∙ both_second (nat_lt (length (answers_of table row.0 row.1)) most_alternatives)
+    ∙ both_second (answer_row_fits table row)
     (answer_rows_fit (with_answer_row table row) (drop (suc i) rows))
     (ap (answer_rows_fit table) (sym (drop-cons rows i d within)) ∙ fits)

@@ -263,13 +263,13 @@ const CLASS_ANSWERS: [AnswerRow; 65] = [
     AnswerRow(S, Flu, I, QUIET),
 ];
 
-/// A table without alternatives.
+/// A table of version 1 without alternatives.
 fn named(alloc: Global, name: &str) -> Table
     requires { is_name name.now ≡ true }
-    ensures { result ≡ empty_table name.now }
+    ensures { result ≡ empty_table name.now 1 }
 {
     let name = Name::of(name.as_bytes()).unwrap();
-    Table::empty(alloc, name)
+    Table::empty(alloc, name, 1)
 }
 
 fn table_of(
@@ -279,12 +279,12 @@ fn table_of(
     answers: &[AnswerRow],
 ) -> Result<Table, NoMemory>
     requires name { is_name name.now ≡ true }
-    requires locals { local_rows_fit (empty_table name.now) locals.now ≡ true }
-    requires answers { answer_rows_fit (with_local_rows (empty_table name.now) locals.now)
+    requires locals { local_rows_fit (empty_table name.now 1) locals.now ≡ true }
+    requires answers { answer_rows_fit (with_local_rows (empty_table name.now 1) locals.now)
         answers.now ≡ true }
     ensures { IfOk result (λ table.
         table
-        ≡ with_answer_rows (with_local_rows (empty_table name.now) locals.now) answers.now) }
+        ≡ with_answer_rows (with_local_rows (empty_table name.now 1) locals.now) answers.now) }
 {
     let mut table = named(alloc, name);
     add_locals(&mut table, locals)?;
@@ -296,12 +296,12 @@ fn table_of(
 fn copy_back_of(alloc: Global, name: &str, writes: &[LocalRow]) -> Result<Table, NoMemory>
     requires name { is_name name.now ≡ true }
     requires writes { local_rows_fit (with_answer_rows
-        (with_local_rows (empty_table name.now) COPY_BACK_LOCALS) COPY_BACK_ANSWERS)
+        (with_local_rows (empty_table name.now 1) COPY_BACK_LOCALS) COPY_BACK_ANSWERS)
         writes.now ≡ true }
     ensures { IfOk result (λ table.
         table
         ≡ with_local_rows (with_answer_rows
-        (with_local_rows (empty_table name.now) COPY_BACK_LOCALS)
+        (with_local_rows (empty_table name.now 1) COPY_BACK_LOCALS)
         COPY_BACK_ANSWERS) writes.now) }
 {
     let mut table = table_of(alloc, name, &COPY_BACK_LOCALS, &COPY_BACK_ANSWERS)?;

@@ -6,7 +6,7 @@ use Rattle.std.proofs.lemmas.Fmt.{length-decimal-le}
 use Rattle.fb_text.specs.Places.{Words}
 use Rattle.fb_text.specs.Written.{after_words, line_bytes}
 use Rattle.bus_signals.specs.declared.Access.{Access}
-use Rattle.bus_signals.specs.declared.Access.TheVariants.{Read, Write, Pass, Flush}
+use Rattle.bus_signals.specs.declared.Access.TheVariants.{Read, Write, Pass, Flush, Swap}
 use Rattle.moesi_state.specs.declared.State.{State}
 use Rattle.class_words.specs.Words.{state_word}
 use Rattle.trace_text.specs.Ranges.{IsValue, IsReplied}
@@ -61,6 +61,13 @@ entry_short e most high h = go e.access e.reply h.replied
     go (Write a v) reply r = omega arith
     go (Pass a) reply r = omega arith
     go (Flush a) reply r = omega arith
+    go (Swap a w) None r = absurd r
+    go (Swap a w) (Some v) r =
+        let b = board_short e.board h.board in
+        let p = place_short e.place (omega (arith, h.place)) in
+        let k = address_short a r.0 in let l = value_short v r.2 in
+        let whole = line_weight (codes "answer") (decimal e.board ∷ decimal e.place ∷ decimal a ∷ decimal v ∷ []) in
+        omega arith
 
 -- A line of memory has at most 56 bytes.
 pub memory_short : (line : ℕ) (words : List ℕ) → line ≤ 4095 → AreFew words → length (memory_text line words) ≤ 56

@@ -3,7 +3,7 @@ use Rattle.std.proofs.Common.{◌≡◌, ℕ, zero, suc, ◌+◌, ◌^◌, ◌<�
 use Rattle.std.specs.Prelude.{All, filter, filter_map, find, ◌==◌}
 use Rattle.std.specs.List.{AllByRecursion, cons_option, list_any}
 use Rattle.bus_signals.specs.declared.Access.{Access}
-use Rattle.bus_signals.specs.declared.Access.TheVariants.{Read, Write, Pass, Flush}
+use Rattle.bus_signals.specs.declared.Access.TheVariants.{Read, Write, Pass, Flush, Swap}
 use Rattle.bus_signals.specs.Accesses.{offset_of}
 use Rattle.moesi_state.specs.declared.State.{State}
 use Rattle.moesi_state.specs.States.{holds}
@@ -90,6 +90,12 @@ written_few (Write a v) None words r h =
 written_few (Write a v) (Some reply) words r h = absurd r
 written_few (Pass a) reply words r h = h
 written_few (Flush a) reply words r h = h
+written_few (Swap a v) None words r h = absurd r
+written_few (Swap a v) (Some reply) words r h =
+    record {
+      few = omega (arith, h.few, length-set words (offset_of a) v);
+      each = all-set IsValue words (offset_of a) v h.each r.1;
+    }
 
 written_by_few : (done : Option Done) (words : List ℕ) → IsCarried done → AreFew words → AreFew (written_by done words)
 written_by_few None words r h = h

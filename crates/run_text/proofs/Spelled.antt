@@ -3,7 +3,7 @@ use Rattle.std.proofs.Common.{◌≡◌, ◌≢◌, ℕ, zero, suc, ◌+◌, ◌
 use Rattle.std.specs.Prelude.{◌==◌}
 use Rattle.std.specs.List.{AllByRecursion}
 use Rattle.bus_signals.specs.declared.Access.{Access}
-use Rattle.bus_signals.specs.declared.Access.TheVariants.{Read, Write, Pass, Flush}
+use Rattle.bus_signals.specs.declared.Access.TheVariants.{Read, Write, Pass, Flush, Swap}
 use Rattle.bus_signals.specs.declared.BusEvent.{BusEvent}
 use Rattle.bus_signals.specs.Meanings.{reads, broadcasts, writes_plain_word, writes_line}
 use Rattle.bus_signals.specs.Accesses.{address_of}
@@ -48,6 +48,9 @@ module _ (setup : Setup) (well : WellFormed setup) (boards : List Progress) (boa
   done_is (Write a v) reply words e r typed = subst (IsReplied (Write a v)) (sym r) (address_is (Write a v) e, typed)
   done_is (Pass a) reply words e r typed = subst (IsReplied (Pass a)) (sym r) (address_is (Pass a) e)
   done_is (Flush a) reply words e r typed = subst (IsReplied (Flush a)) (sym r) (address_is (Flush a) e)
+  done_is (Swap a v) reply words e r typed =
+      let both = subst (AreWords (Swap a v)) r typed in
+      subst (IsReplied (Swap a v)) (sym r) (address_is (Swap a v) e, both.0, both.1)
 
 -- A transaction has the answers of the other holders, and serves the access of its master or a victim.
 pub record Served (setup : Setup) (rows : List Row) (boards : List Progress) (t : Transaction) : Type 0 where

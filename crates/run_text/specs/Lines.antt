@@ -1,8 +1,8 @@
--- The lines in which a run ends: the replies to reads, the memory, and the copies.
+-- The lines in which a run ends: the replies to reads and swaps, the memory, and the copies.
 use Rattle.std.specs.Prelude.{ℕ, zero, suc, List, [], ◌∷◌, ◌++◌, map, Option, Some, None, codes, decimal}
 use Rattle.fb_text.specs.Written.{line_bytes}
 use Rattle.bus_signals.specs.declared.Access.{Access}
-use Rattle.bus_signals.specs.declared.Access.TheVariants.{Read, Write, Pass, Flush}
+use Rattle.bus_signals.specs.declared.Access.TheVariants.{Read, Write, Pass, Flush, Swap}
 use Rattle.moesi_state.specs.declared.State.{State}
 use Rattle.class_words.specs.Words.{state_word}
 use Rattle.bus_model.specs.Entries.{Entry}
@@ -20,12 +20,13 @@ reply_line board place address (Some word) =
     line_bytes
     (codes "answer" ∷ decimal board ∷ decimal place ∷ decimal address ∷ decimal word ∷ [])
 
--- The line of the reply to a completed access, where it is a read.
+-- The line of the reply to a completed access, where it is a read or a swap.
 abbrev pub access_line : ℕ → ℕ → Access → Option ℕ → List ℕ
 access_line board place (Read address) reply = reply_line board place address reply
 access_line board place (Write address word) reply = []
 access_line board place (Pass address) reply = []
 access_line board place (Flush address) reply = []
+access_line board place (Swap address word) reply = reply_line board place address reply
 
 abbrev pub entry_line : Entry → List ℕ
 entry_line e = access_line e.board e.place e.access e.reply

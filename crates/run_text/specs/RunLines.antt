@@ -2,7 +2,7 @@
 use Rattle.std.specs.Prelude.{ℕ, ◌≤◌, List, Option, Some, None, length}
 use Rattle.std.specs.List.{AllByRecursion}
 use Rattle.bus_signals.specs.declared.Access.{Access}
-use Rattle.bus_signals.specs.declared.Access.TheVariants.{Read, Write, Pass, Flush}
+use Rattle.bus_signals.specs.declared.Access.TheVariants.{Read, Write, Pass, Flush, Swap}
 use Rattle.journal.specs.Rising.{IsRising, RisesAfterFirst}
 use Rattle.journal.specs.Boards.{answer_boards, state_boards}
 use Rattle.trace_text.specs.Ranges.{IsValue, InRange}
@@ -24,6 +24,7 @@ AreWords (Read a) reply = IsWordIf reply
 AreWords (Write a v) reply = IsValue v
 AreWords (Pass a) reply = Unit {0}
 AreWords (Flush a) reply = Unit {0}
+AreWords (Swap a v) reply = IsValue v × IsWordIf reply
 
 -- The same for an access that may have been completed.
 abbrev pub AreWordsIf : Option Done → Type 0

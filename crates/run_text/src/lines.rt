@@ -30,14 +30,14 @@ fn four_words(text: &mut Text, words: [u32; 4])
     number(text, u64::from(words[3]));
 }
 
-/// Appends the line of the reply to a completed access, where it is a read.
+/// Appends the line of the reply to a completed access, where it is a read or a swap.
 pub fn write_reply(entry: &Entry, text: &mut Text)
     requires { 256 ≤ text.old.spare }
     ensures line { text.new.bytes ≡ text.old.bytes ++ entry_line entry.now }
     ensures kept { KeepsRoom text.old text.new }
 {
     match &entry.access {
-        Access::Read(addr) => {
+        Access::Read(addr) | Access::Swap(addr, _) => {
             if let Some(reply) = entry.reply {
                 text.push(b"answer");
                 number(text, u64::from(entry.board.0));

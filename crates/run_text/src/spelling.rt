@@ -28,6 +28,10 @@ fn are_words(done: &Done)
             let _word: u32 = *value;
         }
         Access::Pass(_) | Access::Flush(_) => {}
+        Access::Swap(_, value) => {
+            let _word: u32 = *value;
+            is_word_if(&done.reply);
+        }
     }
 }
 

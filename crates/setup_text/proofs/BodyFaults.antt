@@ -16,6 +16,7 @@ use Rattle.class_relation.specs.Names.{is_name}
 use Rattle.class_relation.specs.Tables.{empty_table}
 use Rattle.setup.specs.Setup.{Setup, access_count}
 use Rattle.table_text.specs.Reading.{◌>>=◌}
+use Rattle.table_text.specs.Spelling.{version_words}
 use Rattle.setup_text.specs.declared.fault.LimitOf.TheVariants.{Boards, Accesses}
 use Rattle.setup_text.specs.declared.fault.SetupKind.{SetupKind}
 use Rattle.setup_text.specs.declared.fault.SetupKind.TheVariants.{UnknownWord, Limit}
@@ -25,12 +26,12 @@ use Rattle.setup_text.specs.Standing.{StandsSoFar}
 use Rattle.setup_text.specs.Grammars.{setup_grammar, BreaksSetup, JudgedFirst, JudgedTableWord}
 use Rattle.setup_text.specs.Drafts.{with_word, with_access}
 use Rattle.setup_text.specs.Reading.{Mode, body, in_table, value_line, address_line, word_line, head_line, table_head, board_added, access_of, access_line, access_read, end_line, maybe_access, body_line}
-use Rattle.setup_text.proofs.LineWords.{binds, is_word, head_read}
+use Rattle.setup_text.proofs.LineWords.{binds, is_word, ReadsHead, head_read}
 use Rattle.setup_text.proofs.Parts.{Opener, text, is_bare}
 use Rattle.setup_text.proofs.Follows.{Follows, arbiter, word as word_follows, head, next, board, access, ends, follows, next_word, next_head, next_access, next_end, begins_by}
 use Rattle.setup_text.proofs.SetupAgain.{first_word}
 use Rattle.setup_text.proofs.OneText.{breaks_body}
-use Rattle.setup_text.proofs.HeadLines.{head_stops, head_free}
+use Rattle.setup_text.proofs.HeadLines.{Heads, head_stops, head_free}
 use Rattle.setup_text.proofs.LineFaults.{spelled, same_breaks, same_unfit, no_row, differ, FreeHere, free_nil, free_push, free_from, word_is_free, end_is_free, event_is_free, Begins, Faulty, unfit_at, judged_at, only_word, only_head, only_end, EventTail, only_access}
 use Rattle.setup_text.proofs.BoardRefused.{board_stops, board_passes}
 use Rattle.setup_text.proofs.AddressFaults.{one_stops, one_passes, two_stops, two_passes}
@@ -54,12 +55,13 @@ word_stage :
     → (s.tables ≡ []) × (s.boards ≡ [])
 word_stage s t others (arbiter h bare) = absurd (no_row (codes "word") h refl refl)
 word_stage s t others (word_follows w f h a b) = (a, b)
-word_stage s t others (head name f h b) = absurd (no_row (codes "word") h refl refl)
+word_stage s t others (head name v f known h b) = absurd (no_row (codes "word") h refl refl)
 word_stage s t others (next (board b f h)) = absurd (no_row (codes "word") h refl refl)
 word_stage s t others (next (access (accesses.Read x) f h some)) = absurd (no_row (codes "word") h refl refl)
 word_stage s t others (next (access (accesses.Write x y) f h some)) = absurd (no_row (codes "word") h refl refl)
 word_stage s t others (next (access (accesses.Pass x) f h some)) = absurd (no_row (codes "word") h refl refl)
 word_stage s t others (next (access (accesses.Flush x) f h some)) = absurd (no_row (codes "word") h refl refl)
+word_stage s t others (next (access (accesses.Swap x y) f h some)) = absurd (no_row (codes "word") h refl refl)
 word_stage s t others (next (ends h none)) = absurd (no_row (codes "word") h refl refl)
 
 -- a word that begins no line
@@ -82,24 +84,27 @@ no_first s w t others a b c d e past f = go f
     go : Follows s (w ∷ t) others → ⊥
     go (arbiter h bare) = differ (first_is (codes "arbiter") (codes "fair" ∷ []) h) (past bare)
     go (word_follows x f h p q) = differ (first_is (codes "word") (decimal x.0 ∷ decimal x.1 ∷ []) h) a
-    go (head name f h p) = differ (first_is (codes "table") (name ∷ []) h) b
+    go (head name v f known h p) = differ (first_is (codes "table") (name ∷ version_words v) h) b
     go (next (board x f h)) = differ (first_is (codes "board") (drop 1 (board_row x)) h) c
     go (next (access (accesses.Read x) f h some)) = no_event events.Read (first_is (codes "read") (decimal x ∷ []) h)
     go (next (access (accesses.Write x y) f h some)) =
         no_event events.Write (first_is (codes "write") (decimal x ∷ decimal y ∷ []) h)
     go (next (access (accesses.Pass x) f h some)) = no_event events.Pass (first_is (codes "pass") (decimal x ∷ []) h)
     go (next (access (accesses.Flush x) f h some)) = no_event events.Flush (first_is (codes "flush") (decimal x ∷ []) h)
+    go (next (access (accesses.Swap x y) f h some)) =
+        no_event events.Swap (first_is (codes "swap") (decimal x ∷ decimal y ∷ []) h)
     go (next (ends h none)) = differ (first_is (codes "end") [] h) d
 
 no_empty : (s : SetupText) (others : List Words) → Follows s [] others → ⊥
 no_empty s others (arbiter h bare) = cc
 no_empty s others (word_follows x f h p q) = cc
-no_empty s others (head name f h p) = cc
+no_empty s others (head name v f known h p) = cc
 no_empty s others (next (board x f h)) = cc
 no_empty s others (next (access (accesses.Read x) f h some)) = cc
 no_empty s others (next (access (accesses.Write x y) f h some)) = cc
 no_empty s others (next (access (accesses.Pass x) f h some)) = cc
 no_empty s others (next (access (accesses.Flush x) f h some)) = cc
+no_empty s others (next (access (accesses.Swap x y) f h some)) = cc
 no_empty s others (next (ends h none)) = cc
 
 begins_none : (s : SetupText) → StandsSoFar s → Begins s []
@@ -195,10 +200,21 @@ module _ (rest : List Place) (line : ℕ) where
     only :
         (r : SetupText) (l : Words) (others : List Words) → SetupFits r
         → setup_rows r ≡ open_rows (text n ws ts []) ++ (codes "table" ∷ l) ∷ others
-        → (name : List ℕ) × (is_name name ≡ true) × (l ≡ name ∷ [])
+        → Heads l
     only r l others fits e =
         let f = only_head (text n ws ts []) l others (follows (text n ws ts []) r (codes "table" ∷ l) others fits e) in
-        (f.0, f.1, f.2)
+        (f.0, f.1, f.2, f.3, f.4)
+
+    later_broken :
+        (name w : List ℕ) (k : SetupKind)
+        → BreaksSetup (open_rows (text n ws ts [])) (codes "table" ∷ name ∷ []) w k → ⊥
+    later_broken name w k j = breaks_body (text n ws ts []) (codes "table" ∷ name ∷ []) w k h j
+
+    version_broken :
+        (name w : List ℕ) (k : SetupKind)
+        → BreaksSetup (open_rows (text n ws ts [])) (codes "table" ∷ name ∷ codes "version" ∷ []) w k → ⊥
+    version_broken name w k j =
+        breaks_body (text n ws ts []) (codes "table" ∷ name ∷ codes "version" ∷ []) w k h j
 
     first_broken :
         (k : SetupKind) → BreaksSetup (open_rows (text n ws ts [])) [] (codes "table") k
@@ -215,6 +231,7 @@ module _ (rest : List Place) (line : ℕ) where
         go (inr (inr (inr ((events.Write, x), e, y)))) = absurd (differ x refl)
         go (inr (inr (inr ((events.Pass, x), e, y)))) = absurd (differ x refl)
         go (inr (inr (inr ((events.Flush, x), e, y)))) = absurd (differ x refl)
+        go (inr (inr (inr ((events.Swap, x), e, y)))) = absurd (differ x refl)
 
     few_tables : length (tables_of ts) ≤ 16
     few_tables = let sound = h.sound in let tables = sound.tables in tables.few
@@ -224,21 +241,20 @@ module _ (rest : List Place) (line : ℕ) where
         → Faulty (text n ws ts []) line (codes "table" ∷ l) rest k
     heads_stop l k e =
         head_stops setup_grammar setup_rows spelled BreaksSetup same_breaks same_breaks same_unfit (tables_of ts)
-        few_tables (open_rows (text n ws ts [])) only (λ name is. next_head n ws ts name h.fits is)
+        few_tables (open_rows (text n ws ts [])) only (λ name v is known. next_head n ws ts name v h.fits is known)
         first_broken (λ k j. inr (inl (text n ws ts [], h, refl, inl j)))
         (λ w k j. breaks_body (text n ws ts []) (codes "table" ∷ []) w k h j)
-        (λ w k j. inr (inl (text n ws ts [], h, refl, j))) line l rest k e
+        (λ w k j. inr (inl (text n ws ts [], h, refl, j))) later_broken version_broken line l rest k e
 
     heads_free :
-        (name : List ℕ) → length (tables_of ts) < 16 → head_line (tables_of ts) (name ∷ []) ≡ Ok name
-        → FreeFront BreaksSetup (open_rows (text n ws ts [])) (head_row name)
-    heads_free name few e =
-        let r = head_read (tables_of ts) (name ∷ []) name e in
+        (l : Words) (t : List ℕ × ℕ) → ReadsHead (tables_of ts) l t
+        → FreeFront BreaksSetup (open_rows (text n ws ts [])) (head_row t.0 t.1)
+    heads_free l t r =
         head_free setup_grammar setup_rows spelled BreaksSetup same_breaks same_breaks same_unfit (tables_of ts)
-        few_tables (open_rows (text n ws ts [])) only (λ name is. next_head n ws ts name h.fits is)
+        few_tables (open_rows (text n ws ts [])) only (λ name v is known. next_head n ws ts name v h.fits is known)
         first_broken (λ k j. inr (inl (text n ws ts [], h, refl, inl j)))
         (λ w k j. breaks_body (text n ws ts []) (codes "table" ∷ []) w k h j)
-        (λ w k j. inr (inl (text n ws ts [], h, refl, j))) name few r.new
+        (λ w k j. inr (inl (text n ws ts [], h, refl, j))) later_broken version_broken t.0 t.1 r.few r.new r.known
 
   table_stops :
       (n : Opener) (ws : List (ℕ × ℕ)) (ts : List TableText) (bs : List BoardText) (l : Words) (k : SetupKind)
@@ -246,13 +262,13 @@ module _ (rest : List Place) (line : ℕ) where
       → Faulty (text n ws ts bs) line (codes "table" ∷ l) rest k
   table_stops n ws ts (b ∷ bs) l k h e =
       unknown (text n ws ts (b ∷ bs)) (codes "table") l k h
-      (λ more others f. (let x = only_head (text n ws ts (b ∷ bs)) more others f in let none : b ∷ bs ≡ [] = x.3 in cc))
+      (λ more others f. (let x = only_head (text n ws ts (b ∷ bs)) more others f in let none : b ∷ bs ≡ [] = x.5 in cc))
       cc
   table_stops n ws ts [] l k h e = go (head_line (tables_of ts) l) refl e
     where
       go :
-          (x : Result (List ℕ) SetupKind) → head_line (tables_of ts) l ≡ x
-          → (x >>= λ name. Ok (in_table (setup_of (text n ws ts [])) (empty_table name))) ≡ Err k
+          (x : Result (List ℕ × ℕ) SetupKind) → head_line (tables_of ts) l ≡ x
+          → (x >>= λ x. Ok (in_table (setup_of (text n ws ts [])) (empty_table x.0 x.1))) ≡ Err k
           → Faulty (text n ws ts []) line (codes "table" ∷ l) rest k
       go (Ok a) r e = absurd cc
       go (Err j) r e = let same : j ≡ k = cc in heads_stop n ws ts h l k (r ∙ ap (λ (x : SetupKind). Err x) same)
@@ -263,11 +279,11 @@ module _ (rest : List Place) (line : ℕ) where
       → FreeFront BreaksSetup (open_rows (text n ws ts bs)) (codes "table" ∷ l)
   table_passes n ws ts (b ∷ bs) l m h e = absurd cc
   table_passes n ws ts [] l m h e =
-      let a = binds (head_line (tables_of ts) l) (λ name. Ok (in_table (setup_of (text n ws ts [])) (empty_table name)))
+      let a = binds (head_line (tables_of ts) l) (λ x. Ok (in_table (setup_of (text n ws ts [])) (empty_table x.0 x.1)))
       m e in
       let r = head_read (tables_of ts) l a.value a.here in
       subst (λ (x : Words). FreeFront BreaksSetup (open_rows (text n ws ts [])) (codes "table" ∷ x)) (sym r.words)
-      (heads_free n ws ts h a.value r.few (ap (head_line (tables_of ts)) (sym r.words) ∙ a.here))
+      (heads_free n ws ts h l a.value r)
 
   -- ---- the end
 
@@ -423,6 +439,32 @@ module _ (rest : List Place) (line : ℕ) where
           (λ x y a b. begins_there (accesses.Write x y) (codes "write" ∷ decimal x ∷ decimal y ∷ []) [] (a, b) refl)
           (λ t others f. expects_access events.Write t others f) l a e
 
+      swap_stops :
+          (l : Words) (k : SetupKind) → value_line (length (setup_of (text n ws ts bs)).memory) l ≡ Err k
+          → Faulty (text n ws ts bs) line (codes "swap" ∷ l) rest k
+      swap_stops l k e =
+          two_stops (text n ws ts bs) h rest line (codes "swap") refl
+          (begins_there (accesses.Swap 0 0) (codes "swap" ∷ []) (decimal 0 ∷ decimal 0 ∷ [])
+          (omega arith, omega arith) refl) (event_free events.Swap)
+          (λ x a.
+          begins_there (accesses.Swap x 0) (codes "swap" ∷ decimal x ∷ []) (decimal 0 ∷ []) (a, omega arith)
+          refl) (λ x. refl) (λ x y. refl)
+          (λ x y a b. begins_there (accesses.Swap x y) (codes "swap" ∷ decimal x ∷ decimal y ∷ []) [] (a, b) refl)
+          (λ t others f. expects_access events.Swap t others f) l k e
+
+      swap_passes :
+          (l : Words) (a : ℕ × ℕ) → value_line (length (setup_of (text n ws ts bs)).memory) l ≡ Ok a
+          → FreeHere (text n ws ts bs) (codes "swap" ∷ l)
+      swap_passes l a e =
+          two_passes (text n ws ts bs) h rest line (codes "swap") refl
+          (begins_there (accesses.Swap 0 0) (codes "swap" ∷ []) (decimal 0 ∷ decimal 0 ∷ [])
+          (omega arith, omega arith) refl) (event_free events.Swap)
+          (λ x a.
+          begins_there (accesses.Swap x 0) (codes "swap" ∷ decimal x ∷ []) (decimal 0 ∷ []) (a, omega arith)
+          refl) (λ x. refl) (λ x y. refl)
+          (λ x y a b. begins_there (accesses.Swap x y) (codes "swap" ∷ decimal x ∷ decimal y ∷ []) [] (a, b) refl)
+          (λ t others f. expects_access events.Swap t others f) l a e
+
   module _ (n : Opener) (ws : List (ℕ × ℕ)) (ts : List TableText) (bs : List BoardText)
       (h : StandsSoFar (text n ws ts bs)) (some : 0 < length bs) where
     there :
@@ -435,6 +477,8 @@ module _ (rest : List Place) (line : ℕ) where
         there (accesses.Write 0 0) (codes "write" ∷ []) (decimal 0 ∷ decimal 0 ∷ []) (omega arith, omega arith) refl
     event_begins events.Pass = there (accesses.Pass 0) (codes "pass" ∷ []) (decimal 0 ∷ []) (omega arith) refl
     event_begins events.Flush = there (accesses.Flush 0) (codes "flush" ∷ []) (decimal 0 ∷ []) (omega arith) refl
+    event_begins events.Swap =
+        there (accesses.Swap 0 0) (codes "swap" ∷ []) (decimal 0 ∷ decimal 0 ∷ []) (omega arith, omega arith) refl
 
     event_stops :
         access_count (setup_of (text n ws ts bs)) < 100000 → (event : LocalEvent) (l : Words) (k : SetupKind)
@@ -473,6 +517,14 @@ module _ (rest : List Place) (line : ℕ) where
         go (Ok a) r e = absurd cc
         go (Err j) r e =
             let same : j ≡ k = cc in flush_stops n ws ts bs h some few l k (r ∙ ap (λ (x : SetupKind). Err x) same)
+    event_stops few events.Swap l k e = go (value_line (length (setup_of (text n ws ts bs)).memory) l) refl e
+      where
+        go :
+            (x : Result (ℕ × ℕ) SetupKind) → value_line (length (setup_of (text n ws ts bs)).memory) l ≡ x
+            → two_access events.Swap x ≡ Err k → Faulty (text n ws ts bs) line (codes "swap" ∷ l) rest k
+        go (Ok a) r e = absurd cc
+        go (Err j) r e =
+            let same : j ≡ k = cc in swap_stops n ws ts bs h some few l k (r ∙ ap (λ (x : SetupKind). Err x) same)
 
     event_passes :
         access_count (setup_of (text n ws ts bs)) < 100000 → (event : LocalEvent) (l : Words) (a : Access)
@@ -506,6 +558,13 @@ module _ (rest : List Place) (line : ℕ) where
             (x : Result ℕ SetupKind) → address_line (length (setup_of (text n ws ts bs)).memory) l ≡ x
             → one_access events.Flush x ≡ Ok a → FreeHere (text n ws ts bs) (codes "flush" ∷ l)
         go (Ok x) r e = flush_passes n ws ts bs h some few l x r
+        go (Err j) r e = absurd cc
+    event_passes few events.Swap l a e = go (value_line (length (setup_of (text n ws ts bs)).memory) l) refl e
+      where
+        go :
+            (x : Result (ℕ × ℕ) SetupKind) → value_line (length (setup_of (text n ws ts bs)).memory) l ≡ x
+            → two_access events.Swap x ≡ Ok a → FreeHere (text n ws ts bs) (codes "swap" ∷ l)
+        go (Ok x) r e = swap_passes n ws ts bs h some few l x r
         go (Err j) r e = absurd cc
 
   access_stops :

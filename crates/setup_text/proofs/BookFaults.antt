@@ -11,7 +11,7 @@ use Rattle.class_relation.specs.Names.{is_name}
 use Rattle.class_relation.specs.Tables.{Table, empty_table}
 use Rattle.table_text.specs.declared.fault.TableKind.{TableKind}
 use Rattle.table_text.specs.Reading.{◌>>=◌, table_line}
-use Rattle.table_text.specs.Spelling.{CellLine, local, answer, cell_words, HasAlternative, BreaksCell, table_of}
+use Rattle.table_text.specs.Spelling.{CellLine, local, answer, cell_words, IsVersion, IsLineOf, BreaksCell}
 use Rattle.table_text.specs.Correct.{CanStand}
 use Rattle.table_text.proofs.TableLaws.{table_line_takes}
 use Rattle.setup_text.specs.declared.fault.SetupKind.{SetupKind}
@@ -19,20 +19,20 @@ use Rattle.setup_text.specs.declared.fault.SetupKind.TheVariants.{UnknownWord, N
 use Rattle.setup_text.specs.declared.fault.SetupFault.{SetupFault}
 use Rattle.setup_text.specs.declared.fault.SetupFault.TheVariants as faults
 use Rattle.setup_text.specs.Spelling.{TableText, TableFits, BookFits, end_row, head_row, open_table_rows, table_rows, tables_rows}
-use Rattle.setup_text.specs.Values.{tables_of}
+use Rattle.setup_text.specs.Values.{spelled_table, tables_of}
 use Rattle.setup_text.specs.Standing.{TablesStand}
 use Rattle.setup_text.specs.Grammars.{book_grammar, BreaksBook, UnfitText, kind_of}
 use Rattle.setup_text.specs.Correct.{IsFirstFault}
 use Rattle.setup_text.specs.Reading.{BookMode, within, Fault, Answers, on_line, this_word, head_line, as_setup_kind, after_book_line, book_line, book_lines, book_ends, book_at}
 use Rattle.setup_text.proofs.Growing.{each_push}
-use Rattle.setup_text.proofs.LineWords.{binds, word_read, ReadsName, head_read}
+use Rattle.setup_text.proofs.LineWords.{binds, word_read, ReadsHead, head_read}
 use Rattle.setup_text.proofs.Parts.{table_text, flat_push, TableStands}
 use Rattle.setup_text.proofs.SetupLines.{table_whole}
 use Rattle.setup_text.proofs.Books.{BookPart, wholes, inside, mode_of, rows_of, Good, line_takes, rows_close, rows_cell, nothing_stands}
 use Rattle.setup_text.proofs.Follows.{InTable, peel_tables, table_follows}
 use Rattle.setup_text.proofs.OneText.{book_breaks_whole, book_breaks_open}
 use Rattle.setup_text.proofs.OpenTables.{line_stops, cell_free, end_free}
-use Rattle.setup_text.proofs.HeadLines.{head_stops, head_free}
+use Rattle.setup_text.proofs.HeadLines.{Heads, head_stops, head_free}
 
 closed : IsClosing (text_end ∷ [])
 closed = inr refl
@@ -48,44 +48,50 @@ same_unfit x i k b = b
 
 -- ---- the lines that can follow
 
-no_rows : (name : List ℕ) (rest : List Words) → [] ≡ head_row name ∷ rest → ⊥
-no_rows name rest e = cc
+no_rows : (name : List ℕ) (version : ℕ) (rest : List Words) → [] ≡ head_row name version ∷ rest → ⊥
+no_rows name version rest e = cc
 
 behind :
     (ts r : List TableText) (X : List Words) → BookFits r → tables_rows r ≡ tables_rows ts ++ X
     → (rest : List TableText) × AllByRecursion TableFits rest × (X ≡ tables_rows rest ++ [])
 behind ts r X fits e = peel_tables ts r X [] fits.1 no_rows (sym e ∙ sym (append-nil (tables_rows r)))
 
+-- the line is some head line
+abbrev IsHeadRow : Words → Type 0
+IsHeadRow l =
+    (name : List ℕ) × (version : ℕ) × (is_name name ≡ true) × IsVersion version × (l ≡ head_row name version)
+
 pub follows :
     (ts r : List TableText) (l : Words) (others : List Words) → BookFits r
-    → tables_rows r ≡ tables_rows ts ++ l ∷ others → (name : List ℕ) × (is_name name ≡ true) × (l ≡ head_row name)
+    → tables_rows r ≡ tables_rows ts ++ l ∷ others → IsHeadRow l
 follows ts r l others fits e = go (behind ts r (l ∷ others) fits e)
   where
     go :
         (rest : List TableText) × AllByRecursion TableFits rest × (l ∷ others ≡ tables_rows rest ++ [])
-        → (name : List ℕ) × (is_name name ≡ true) × (l ≡ head_row name)
+        → IsHeadRow l
     go ([], f, h) = absurd cc
-    go (u ∷ us, f, h) = let fit = f.0 in let here : l ≡ head_row u.name = cc in (u.name, fit.name, here)
+    go (u ∷ us, f, h) = let fit = f.0 in let here : l ≡ head_row u.name u.version = cc in
+        (u.name, u.version, fit.name, fit.version, here)
 
 follows_open :
-    (ts r : List TableText) (t : TableText) (l : Words) (others : List Words) → BookFits r
-    → tables_rows r ≡ (tables_rows ts ++ open_table_rows t) ++ l ∷ others → InTable l
-follows_open ts r t l others fits e =
+    (ts r : List TableText) (t : TableText) (l : Words) (others : List Words) → IsVersion t.version → BookFits r
+    → tables_rows r ≡ (tables_rows ts ++ open_table_rows t) ++ l ∷ others → InTable t.version l
+follows_open ts r t l others known fits e =
     let b = behind ts r (open_table_rows t ++ l ∷ others) fits
     (e ∙ append_assoc (tables_rows ts) (open_table_rows t) (l ∷ others)) in
-    table_follows t.name t.cells l others b.0 [] b.1 no_rows b.2
+    table_follows t.name t.version t.cells l others b.0 [] known b.1 no_rows b.2
 
 some_more : (ts : List TableText) (t : TableText) → 0 < length (ts ++ t ∷ [])
 some_more ts t = omega (arith, length-append ts (t ∷ []))
 
 next_head :
-    (ts : List TableText) → TablesStand ts → (name : List ℕ) → is_name name ≡ true
-    → HasNext book_grammar tables_rows (tables_rows ts) (head_row name)
-next_head ts s name is =
-    let t = table_text name [] in (
+    (ts : List TableText) → TablesStand ts → (name : List ℕ) (version : ℕ) → is_name name ≡ true → IsVersion version
+    → HasNext book_grammar tables_rows (tables_rows ts) (head_row name version)
+next_head ts s name version is known =
+    let t = table_text name version [] in (
       ts ++ t ∷ [],
       end_row ∷ [],
-      (some_more ts t, each_push TableFits ts t s.fits (record { name = is; cells = tt })),
+      (some_more ts t, each_push TableFits ts t s.fits (record { name = is; version = known; cells = tt })),
       flat_push table_rows ts t,
     )
 
@@ -101,27 +107,35 @@ next_end ts t s h = (
 
 next_cell :
     (ts : List TableText) (t : TableText) → TablesStand ts → TableStands (tables_of ts) t → (c : CellLine)
-    → HasAlternative c → HasNext book_grammar tables_rows (tables_rows ts ++ open_table_rows t) (cell_words c)
+    → IsLineOf t.version c → HasNext book_grammar tables_rows (tables_rows ts ++ open_table_rows t) (cell_words c)
 next_cell ts t s h c some =
-    let u = table_text t.name (t.cells ++ c ∷ []) in
+    let u = table_text t.name t.version (t.cells ++ c ∷ []) in
     let fits = h.fits in (
       ts ++ u ∷ [],
       end_row ∷ [],
       (
         some_more ts u,
         each_push TableFits ts u s.fits
-            (record { name = fits.name; cells = each_push HasAlternative t.cells c fits.cells some }),
+            (record {
+              name = fits.name;
+              version = fits.version;
+              cells = each_push (IsLineOf t.version) t.cells c fits.cells some;
+            }),
       ),
       flat_push table_rows ts u
           ∙ (rows_close (tables_rows ts) u
-          ∙ (ap (λ (x : List Words). x ++ end_row ∷ []) (rows_cell (tables_rows ts) t.name t.cells c)
+          ∙ (ap (λ (x : List Words). x ++ end_row ∷ []) (rows_cell (tables_rows ts) t.name t.version t.cells c)
           ∙ append_assoc (tables_rows ts ++ open_table_rows t) (cell_words c ∷ []) (end_row ∷ []))),
     )
 
 -- ---- one line
 
-cells_of : (ts : List TableText) (t : TableText) → TableStands (tables_of ts) t → AllByRecursion HasAlternative t.cells
+cells_of : (ts : List TableText) (t : TableText) → TableStands (tables_of ts) t
+    → AllByRecursion (IsLineOf t.version) t.cells
 cells_of ts t h = let fits = h.fits in fits.cells
+
+version_of : (ts : List TableText) (t : TableText) → TableStands (tables_of ts) t → IsVersion t.version
+version_of ts t h = let fits = h.fits in fits.version
 
 breaking :
     (ts : List TableText) (t : TableText) → TablesStand ts → TableStands (tables_of ts) t
@@ -132,39 +146,42 @@ breaking ts t s h words here tk b =
 
 open_stops :
     (ts : List TableText) (t : TableText) (n : ℕ) (l : Words) (rest : List Place) (tk : TableKind) → TablesStand ts
-    → TableStands (tables_of ts) t → table_line (table_of t.name t.cells) l ≡ Err tk
+    → TableStands (tables_of ts) t → table_line (spelled_table t) l ≡ Err tk
     → FaultBehind book_grammar (tables_rows ts ++ open_table_rows t) (line_places n l rest) n (kind_of tk)
 open_stops ts t n l rest tk s h e =
-    line_stops book_grammar tables_rows spelled BreaksBook same_breaks same_breaks same_unfit t.name t.cells
-    (tables_rows ts ++ open_table_rows t) (cells_of ts t h)
-    (λ r l others fits e. follows_open ts r t l others fits e) (next_cell ts t s h) (next_end ts t s h)
+    line_stops book_grammar tables_rows spelled BreaksBook same_breaks same_breaks same_unfit t
+    (tables_rows ts ++ open_table_rows t) (version_of ts t h) (cells_of ts t h)
+    (λ r l others fits e. follows_open ts r t l others (version_of ts t h) fits e) (next_cell ts t s h)
+    (next_end ts t s h)
     (λ words here k j. book_breaks_open ts t words here k s j) (breaking ts t s h) n l rest tk e
 
 open_cell_free :
     (ts : List TableText) (t : TableText) (c : CellLine) → TablesStand ts → TableStands (tables_of ts) t
-    → CanStand (table_of t.name t.cells) c → FreeFront BreaksBook (tables_rows ts ++ open_table_rows t) (cell_words c)
+    → CanStand (spelled_table t) c → FreeFront BreaksBook (tables_rows ts ++ open_table_rows t) (cell_words c)
 open_cell_free ts t c s h can =
-    cell_free book_grammar tables_rows spelled BreaksBook same_breaks same_breaks same_unfit t.name t.cells
-    (tables_rows ts ++ open_table_rows t) (cells_of ts t h)
-    (λ r l others fits e. follows_open ts r t l others fits e) (next_cell ts t s h) (next_end ts t s h)
+    cell_free book_grammar tables_rows spelled BreaksBook same_breaks same_breaks same_unfit t
+    (tables_rows ts ++ open_table_rows t) (version_of ts t h) (cells_of ts t h)
+    (λ r l others fits e. follows_open ts r t l others (version_of ts t h) fits e) (next_cell ts t s h)
+    (next_end ts t s h)
     (λ words here k j. book_breaks_open ts t words here k s j) (breaking ts t s h) c can
 
 open_end_free :
     (ts : List TableText) (t : TableText) → TablesStand ts → TableStands (tables_of ts) t
     → FreeFront BreaksBook (tables_rows ts ++ open_table_rows t) end_row
 open_end_free ts t s h =
-    end_free book_grammar tables_rows spelled BreaksBook same_breaks same_breaks same_unfit t.name t.cells
-    (tables_rows ts ++ open_table_rows t) (cells_of ts t h)
-    (λ r l others fits e. follows_open ts r t l others fits e) (next_cell ts t s h) (next_end ts t s h)
+    end_free book_grammar tables_rows spelled BreaksBook same_breaks same_breaks same_unfit t
+    (tables_rows ts ++ open_table_rows t) (version_of ts t h) (cells_of ts t h)
+    (λ r l others fits e. follows_open ts r t l others (version_of ts t h) fits e) (next_cell ts t s h)
+    (next_end ts t s h)
     (λ words here k j. book_breaks_open ts t words here k s j) (breaking ts t s h)
 
 head_only :
     (ts : List TableText) (r : List TableText) (l : Words) (others : List Words) → BookFits r
     → tables_rows r ≡ tables_rows ts ++ (codes "table" ∷ l) ∷ others
-    → (name : List ℕ) × (is_name name ≡ true) × (l ≡ name ∷ [])
+    → Heads l
 head_only ts r l others fits e =
     let f = follows ts r (codes "table" ∷ l) others fits e in
-    let both : codes "table" ∷ l ≡ head_row f.0 = f.2 in (f.0, f.1, cc)
+    let both : codes "table" ∷ l ≡ head_row f.0 f.1 = f.4 in (f.0, f.1, f.2, f.3, cc)
 
 whole_head_stops :
     (ts : List TableText) (n : ℕ) (l : Words) (rest : List Place) (k : SetupKind) → TablesStand ts
@@ -175,17 +192,22 @@ whole_head_stops ts n l rest k s e =
     head_stops book_grammar tables_rows spelled BreaksBook same_breaks same_breaks same_unfit (tables_of ts) sound.few
     (tables_rows ts) (head_only ts) (next_head ts s)
     (λ k j. book_breaks_whole ts [] (codes "table") k s j) (λ k j. inl (ts, s, refl, j))
-    (λ w k j. book_breaks_whole ts (codes "table" ∷ []) w k s j) (λ w k j. inl (ts, s, refl, j)) n l rest k e
+    (λ w k j. book_breaks_whole ts (codes "table" ∷ []) w k s j) (λ w k j. inl (ts, s, refl, j))
+    (λ name w k j. book_breaks_whole ts (codes "table" ∷ name ∷ []) w k s j)
+    (λ name w k j. book_breaks_whole ts (codes "table" ∷ name ∷ codes "version" ∷ []) w k s j) n l rest k e
 
 whole_head_free :
-    (ts : List TableText) (name : List ℕ) → TablesStand ts → ReadsName (tables_of ts) (name ∷ []) name
-    → FreeFront BreaksBook (tables_rows ts) (head_row name)
-whole_head_free ts name s r =
+    (ts : List TableText) (l : Words) (t : List ℕ × ℕ) → TablesStand ts → ReadsHead (tables_of ts) l t
+    → FreeFront BreaksBook (tables_rows ts) (head_row t.0 t.1)
+whole_head_free ts l t s r =
     let sound = s.sound in
     head_free book_grammar tables_rows spelled BreaksBook same_breaks same_breaks same_unfit (tables_of ts) sound.few
     (tables_rows ts) (head_only ts) (next_head ts s)
     (λ k j. book_breaks_whole ts [] (codes "table") k s j) (λ k j. inl (ts, s, refl, j))
-    (λ w k j. book_breaks_whole ts (codes "table" ∷ []) w k s j) (λ w k j. inl (ts, s, refl, j)) name r.few r.new
+    (λ w k j. book_breaks_whole ts (codes "table" ∷ []) w k s j) (λ w k j. inl (ts, s, refl, j))
+    (λ name w k j. book_breaks_whole ts (codes "table" ∷ name ∷ []) w k s j)
+    (λ name w k j. book_breaks_whole ts (codes "table" ∷ name ∷ codes "version" ∷ []) w k s j) t.0 t.1 r.few r.new
+    r.known
 
 -- a line that does not begin with `table`
 no_head :
@@ -193,9 +215,9 @@ no_head :
     → this_word (codes "table") l ≡ Err k → FaultBehind book_grammar (tables_rows ts) (line_places n l rest) n k
 no_head ts n [] rest k s e =
     let same : UnknownWord ≡ k = cc in
-    let b = next_head ts s (codes "a") refl in
+    let b = next_head ts s (codes "a") 1 refl (inl refl) in
     stops_in_line book_grammar tables_rows (text_end ∷ []) closed spelled BreaksBook same_breaks same_breaks
-    (tables_rows ts) n [] rest [] None [] k refl (b.0, head_row (codes "a"), b.1, b.2, b.3) nothing
+    (tables_rows ts) n [] rest [] None [] k refl (b.0, head_row (codes "a") 1, b.1, b.2, b.3) nothing
     (unfit_fault book_grammar tables_rows (text_end ∷ []) closed spelled BreaksBook same_breaks same_breaks
     (tables_rows ts) [] None k none
     (record { earlier = tables_rows ts; words = []; before_is = refl; kind_is = sym same }))
@@ -205,7 +227,7 @@ no_head ts n [] rest k s e =
     nothing (x ∷ p) w q e k j = cc
 
     none : NoLine book_grammar tables_rows (tables_rows ts) [] None
-    none r more others fits e = let f = follows ts r [] others fits e in let both : [] ≡ head_row f.0 = f.2 in cc
+    none r more others fits e = let f = follows ts r [] others fits e in let both : [] ≡ head_row f.0 f.1 = f.4 in cc
 no_head ts n (w ∷ l) rest k s e = go (bytes_eq w (codes "table")) refl e
   where
     nothing : FreeFront BreaksBook (tables_rows ts) []
@@ -218,9 +240,9 @@ no_head ts n (w ∷ l) rest k s e = go (bytes_eq w (codes "table")) refl e
     go true h e = absurd cc
     go false h e =
         let same : UnknownWord ≡ k = cc in
-        let b = next_head ts s (codes "a") refl in
+        let b = next_head ts s (codes "a") 1 refl (inl refl) in
         stops_in_line book_grammar tables_rows (text_end ∷ []) closed spelled BreaksBook same_breaks same_breaks
-        (tables_rows ts) n (w ∷ l) rest [] (Some w) l k refl (b.0, head_row (codes "a"), b.1, b.2, b.3) nothing
+        (tables_rows ts) n (w ∷ l) rest [] (Some w) l k refl (b.0, head_row (codes "a") 1, b.1, b.2, b.3) nothing
         (unfit_fault book_grammar tables_rows (text_end ∷ []) closed spelled BreaksBook same_breaks same_breaks
         (tables_rows ts) [] (Some w) k none
         (record { earlier = tables_rows ts; words = []; before_is = refl; kind_is = sym same }))
@@ -228,7 +250,7 @@ no_head ts n (w ∷ l) rest k s e = go (bytes_eq w (codes "table")) refl e
         none : NoLine book_grammar tables_rows (tables_rows ts) [] (Some w)
         none r more others fits e =
             let f = follows ts r (w ∷ more) others fits e in
-            let both : w ∷ more ≡ head_row f.0 = f.2 in
+            let both : w ∷ more ≡ head_row f.0 f.1 = f.4 in
             let is : w ≡ codes "table" = cc in
             let passed : bytes_eq w (codes "table") ≡ true = ap (λ (x : List ℕ). bytes_eq x (codes "table")) is in
             (let clash : true ≡ false = sym passed ∙ h in cc)
@@ -240,10 +262,10 @@ line_faults :
 line_faults (wholes ts) n l rest k s e = go (this_word (codes "table") l) refl e
   where
     named_by :
-        (x : Result (List ℕ) SetupKind) → (after : Words) → l ≡ codes "table" ∷ after
-        → head_line (tables_of ts) after ≡ x → (x >>= λ name. Ok (within (tables_of ts) (empty_table name))) ≡ Err k
+        (x : Result (List ℕ × ℕ) SetupKind) → (after : Words) → l ≡ codes "table" ∷ after
+        → head_line (tables_of ts) after ≡ x → (x >>= λ x. Ok (within (tables_of ts) (empty_table x.0 x.1))) ≡ Err k
         → FaultBehind book_grammar (tables_rows ts) (line_places n l rest) n k
-    named_by (Ok name) after is h e = absurd cc
+    named_by (Ok t) after is h e = absurd cc
     named_by (Err j) after is h e =
         let same : j ≡ k = cc in
         subst (λ (x : Words). FaultBehind book_grammar (tables_rows ts) (line_places n x rest) n k) (sym is)
@@ -251,14 +273,14 @@ line_faults (wholes ts) n l rest k s e = go (this_word (codes "table") l) refl e
 
     go :
         (x : Result Words SetupKind) → this_word (codes "table") l ≡ x
-        → (x >>= λ after. head_line (tables_of ts) after >>= λ name. Ok (within (tables_of ts) (empty_table name)))
+        → (x >>= λ after. head_line (tables_of ts) after >>= λ x. Ok (within (tables_of ts) (empty_table x.0 x.1)))
         ≡ Err k → FaultBehind book_grammar (tables_rows ts) (line_places n l rest) n k
     go (Err j) h e = let same : j ≡ k = cc in no_head ts n l rest k s (h ∙ ap (λ (x : SetupKind). Err x) same)
     go (Ok after) h e = named_by (head_line (tables_of ts) after) after (word_read (codes "table") l after h) refl e
-line_faults (inside ts t) n l rest k good e = go (table_line (table_of t.name t.cells) l) refl e
+line_faults (inside ts t) n l rest k good e = go (table_line (spelled_table t) l) refl e
   where
     go :
-        (x : Result (Bool × Table) TableKind) → table_line (table_of t.name t.cells) l ≡ x
+        (x : Result (Bool × Table) TableKind) → table_line (spelled_table t) l ≡ x
         → (as_setup_kind x >>= λ t. Ok (after_book_line (tables_of ts) t)) ≡ Err k
         → FaultBehind book_grammar (tables_rows ts ++ open_table_rows t) (line_places n l rest) n k
     go (Ok u) h e = absurd cc
@@ -274,26 +296,26 @@ line_free :
     → FreeFront BreaksBook (rows_of p) l
 line_free (wholes ts) l m s e =
     let a = binds (this_word (codes "table") l)
-    (λ after. head_line (tables_of ts) after >>= λ name. Ok (within (tables_of ts) (empty_table name))) m e in
-    let b = binds (head_line (tables_of ts) a.value) (λ name. Ok (within (tables_of ts) (empty_table name))) m a.then in
+    (λ after. head_line (tables_of ts) after >>= λ x. Ok (within (tables_of ts) (empty_table x.0 x.1))) m e in
+    let b = binds (head_line (tables_of ts) a.value) (λ x. Ok (within (tables_of ts) (empty_table x.0 x.1))) m a.then in
     let r = head_read (tables_of ts) a.value b.value b.here in
-    let is : l ≡ head_row b.value =
+    let is : l ≡ head_row b.value.0 b.value.1 =
     word_read (codes "table") l a.value a.here ∙ ap (λ (u : Words). codes "table" ∷ u) r.words in
     subst (λ (x : Words). FreeFront BreaksBook (tables_rows ts) x) (sym is)
-    (whole_head_free ts b.value s (record { words = refl; few = r.few; named_ = r.named_; new = r.new }))
-line_free (inside ts t) l m good e = go (table_line (table_of t.name t.cells) l) refl e
+    (whole_head_free ts a.value b.value s r)
+line_free (inside ts t) l m good e = go (table_line (spelled_table t) l) refl e
   where
     go :
-        (x : Result (Bool × Table) TableKind) → table_line (table_of t.name t.cells) l ≡ x
+        (x : Result (Bool × Table) TableKind) → table_line (spelled_table t) l ≡ x
         → (as_setup_kind x >>= λ t. Ok (after_book_line (tables_of ts) t)) ≡ Ok m
         → FreeFront BreaksBook (tables_rows ts ++ open_table_rows t) l
     go (Err tk) h e = absurd cc
     go (Ok (true, u)) h e =
-        let is = table_line_takes (table_of t.name t.cells) l (true, u) (table_whole t) h in
+        let is = table_line_takes (spelled_table t) l (true, u) (table_whole t) h in
         subst (λ (x : Words). FreeFront BreaksBook (tables_rows ts ++ open_table_rows t) x) (sym is.0)
         (open_end_free ts t good.0 good.1)
     go (Ok (false, u)) h e =
-        let c = table_line_takes (table_of t.name t.cells) l (false, u) (table_whole t) h in
+        let c = table_line_takes (spelled_table t) l (false, u) (table_whole t) h in
         subst (λ (x : Words). FreeFront BreaksBook (tables_rows ts ++ open_table_rows t) x) (sym c.words)
         (open_cell_free ts t c.line good.0 good.1 c.can)
 
@@ -357,11 +379,11 @@ ends_early (inside ts t) end f good e =
         go ([], x, h) = cc
         go (u ∷ us, x, h) =
             let parts : (table_rows u ++ tables_rows us) ++ []
-            ≡ head_row u.name ∷ (map cell_words u.cells ++ (end_row ∷ (tables_rows us ++ []))) =
+            ≡ head_row u.name u.version ∷ (map cell_words u.cells ++ (end_row ∷ (tables_rows us ++ []))) =
             append_assoc (table_rows u) (tables_rows us) []
             ∙ append_assoc (open_table_rows u) (end_row ∷ []) (tables_rows us ++ []) in
             let both : open_table_rows t
-            ≡ head_row u.name ∷ (map cell_words u.cells ++ (end_row ∷ (tables_rows us ++ []))) = h ∙ parts in
+            ≡ head_row u.name u.version ∷ (map cell_words u.cells ++ (end_row ∷ (tables_rows us ++ []))) = h ∙ parts in
             let cells : map cell_words t.cells ≡ map cell_words u.cells ++ (end_row ∷ (tables_rows us ++ [])) = cc in
             no_end_among t.cells u.cells (tables_rows us ++ []) cells
 

@@ -8,7 +8,7 @@ use Rattle.fb_text.specs.Unread.{Line, unread}
 use Rattle.class_relation.specs.Tables.{Table, empty_table}
 use Rattle.table_text.specs.declared.fault.TableKind.{TableKind}
 use Rattle.table_text.specs.Reading.{◌>>=◌, table_line}
-use Rattle.table_text.specs.Spelling.{CellLine, cell_words, entered, all_entered, table_of}
+use Rattle.table_text.specs.Spelling.{CellLine, cell_words, entered, all_entered}
 use Rattle.table_text.specs.Correct.{AllStand}
 use Rattle.table_text.proofs.TableLaws.{HasAllCells, table_line_takes, entered_whole, empty_whole}
 use Rattle.table_text.proofs.Again.{line_again, end_again}
@@ -16,7 +16,7 @@ use Rattle.setup_text.specs.declared.fault.SetupKind.{SetupKind}
 use Rattle.setup_text.specs.declared.fault.SetupFault.{SetupFault}
 use Rattle.setup_text.specs.declared.fault.SetupFault.TheVariants as faults
 use Rattle.setup_text.specs.Spelling.{TableText, TableFits, end_row, head_row, open_table_rows, table_rows, tables_rows, book_items}
-use Rattle.setup_text.specs.Values.{tables_of}
+use Rattle.setup_text.specs.Values.{spelled_table, tables_of}
 use Rattle.setup_text.specs.Standing.{CellsStand, TablesStand, BookStands}
 use Rattle.setup_text.specs.Drafts.{AreTables}
 use Rattle.setup_text.specs.Correct.{IsBook, IsReadAs}
@@ -36,7 +36,7 @@ pub data BookPart : Type 0 where
 
 abbrev pub mode_of : BookPart → BookMode
 mode_of (wholes ts) = whole (tables_of ts)
-mode_of (inside ts t) = within (tables_of ts) (table_of t.name t.cells)
+mode_of (inside ts t) = within (tables_of ts) (spelled_table t)
 
 abbrev pub rows_of : BookPart → List Words
 rows_of (wholes ts) = tables_rows ts
@@ -70,14 +70,22 @@ head_takes :
     → Grows (wholes ts) l m
 head_takes ts l m s e =
     let a = binds (this_word (codes "table") l)
-    (λ after. head_line (tables_of ts) after >>= λ name. Ok (within (tables_of ts) (empty_table name))) m e in
-    let b = binds (head_line (tables_of ts) a.value) (λ name. Ok (within (tables_of ts) (empty_table name))) m a.then in
+    (λ after. head_line (tables_of ts) after >>= λ x. Ok (within (tables_of ts) (empty_table x.0 x.1))) m e in
+    let b = binds (head_line (tables_of ts) a.value) (λ x. Ok (within (tables_of ts) (empty_table x.0 x.1))) m a.then in
     let r = head_read (tables_of ts) a.value b.value b.here in
-    grows_by (wholes ts) (head_row b.value) l m
+    grows_by (wholes ts) (head_row b.value.0 b.value.1) l m
     (word_read (codes "table") l a.value a.here ∙ ap (λ (u : Words). codes "table" ∷ u) r.words) (record {
-      next = inside ts (table_text b.value []);
-      good = (s, record { fits = record { name = r.named_; cells = tt }; cells = tt; few = r.few; new = r.new });
-      mode = ok_same (within (tables_of ts) (empty_table b.value)) m b.then;
+      next = inside ts (table_text b.value.0 b.value.1 []);
+      good = (
+        s,
+        record {
+          fits = record { name = r.named_; version = r.known; cells = tt };
+          cells = tt;
+          few = r.few;
+          new = r.new;
+        },
+      );
+      mode = ok_same (within (tables_of ts) (empty_table b.value.0 b.value.1)) m b.then;
       rows = refl;
     })
 
@@ -86,24 +94,24 @@ pub rows_close :
 rows_close before t = sym (append_assoc before (open_table_rows t) (end_row ∷ []))
 
 pub rows_cell :
-    (before : List Words) (name : List ℕ) (cells : List CellLine) (c : CellLine)
-    → before ++ open_table_rows (table_text name (cells ++ c ∷ []))
-    ≡ (before ++ open_table_rows (table_text name cells)) ++ cell_words c ∷ []
-rows_cell before name cells c =
-    ap (λ (v : List Words). before ++ (head_row name ∷ v)) (map-append cell_words cells (c ∷ []))
-    ∙ sym (append_assoc before (open_table_rows (table_text name cells)) (cell_words c ∷ []))
+    (before : List Words) (name : List ℕ) (version : ℕ) (cells : List CellLine) (c : CellLine)
+    → before ++ open_table_rows (table_text name version (cells ++ c ∷ []))
+    ≡ (before ++ open_table_rows (table_text name version cells)) ++ cell_words c ∷ []
+rows_cell before name version cells c =
+    ap (λ (v : List Words). before ++ (head_row name version ∷ v)) (map-append cell_words cells (c ∷ []))
+    ∙ sym (append_assoc before (open_table_rows (table_text name version cells)) (cell_words c ∷ []))
 
 table_takes :
     (ts : List TableText) (t : TableText) (l : Words) (m : BookMode) → TablesStand ts → TableStands (tables_of ts) t
-    → book_line (within (tables_of ts) (table_of t.name t.cells)) l ≡ Ok m → Grows (inside ts t) l m
-table_takes ts t l m s h e = go (table_line (table_of t.name t.cells) l) refl e
+    → book_line (within (tables_of ts) (spelled_table t)) l ≡ Ok m → Grows (inside ts t) l m
+table_takes ts t l m s h e = go (table_line (spelled_table t) l) refl e
   where
     go :
-        (x : Result (Bool × Table) TableKind) → table_line (table_of t.name t.cells) l ≡ x
+        (x : Result (Bool × Table) TableKind) → table_line (spelled_table t) l ≡ x
         → (as_setup_kind x >>= λ t. Ok (after_book_line (tables_of ts) t)) ≡ Ok m → Grows (inside ts t) l m
     go (Err k) r e = absurd cc
     go (Ok (true, u)) r e =
-        let is = table_line_takes (table_of t.name t.cells) l (true, u) (table_whole t) r in
+        let is = table_line_takes (spelled_table t) l (true, u) (table_whole t) r in
         grows_by (inside ts t) end_row l m is.0 (record {
           next = wholes (ts ++ t ∷ []);
           good = tables_stand ts t s h;
@@ -114,15 +122,15 @@ table_takes ts t l m s h e = go (table_line (table_of t.name t.cells) l) refl e
           rows = flat_push table_rows ts t ∙ rows_close (tables_rows ts) t;
         })
     go (Ok (false, u)) r e =
-        let c = table_line_takes (table_of t.name t.cells) l (false, u) (table_whole t) r in
+        let c = table_line_takes (spelled_table t) l (false, u) (table_whole t) r in
         grows_by (inside ts t) (cell_words c.line) l m c.words (record {
-          next = inside ts (table_text t.name (t.cells ++ c.line ∷ []));
-          good = (s, cell_stands (tables_of ts) t.name t.cells c.line h c.some c.can);
+          next = inside ts (table_text t.name t.version (t.cells ++ c.line ∷ []));
+          good = (s, cell_stands (tables_of ts) t c.line h c.some c.can);
           mode =
               ap (λ (x : Table). within (tables_of ts) x)
-              (entered_push (empty_table t.name) t.cells c.line ∙ sym c.enters)
+              (entered_push (empty_table t.name t.version) t.cells c.line ∙ sym c.enters)
               ∙ ok_same (within (tables_of ts) u) m e;
-          rows = rows_cell (tables_rows ts) t.name t.cells c.line;
+          rows = rows_cell (tables_rows ts) t.name t.version t.cells c.line;
         })
 
 pub line_takes : (p : BookPart) (l : Words) (m : BookMode) → Good p → book_line (mode_of p) l ≡ Ok m → Grows p l m
@@ -159,19 +167,19 @@ cells_again tables t (c ∷ cells) all h =
 
 pub open_again :
     (ts : List TableText) (t : TableText) → TableStands (tables_of ts) t
-    → rows_at (whole (tables_of ts)) (open_table_rows t) ≡ Ok (within (tables_of ts) (table_of t.name t.cells))
+    → rows_at (whole (tables_of ts)) (open_table_rows t) ≡ Ok (within (tables_of ts) (spelled_table t))
 open_again ts t h =
-    rw (head_reads (tables_of ts) t.name h.few h.fits.name h.new)
-    (cells_again (tables_of ts) (empty_table t.name) t.cells (empty_whole t.name) h.cells)
+    rw (head_reads (tables_of ts) t.name t.version h.few h.fits.name h.new h.fits.version)
+    (cells_again (tables_of ts) (empty_table t.name t.version) t.cells (empty_whole t.name t.version) h.cells)
 
 table_again :
     (ts : List TableText) (t : TableText) → TableStands (tables_of ts) t
     → rows_at (whole (tables_of ts)) (table_rows t) ≡ Ok (whole (tables_of (ts ++ t ∷ [])))
 table_again ts t h =
-    let closes : book_line (within (tables_of ts) (table_of t.name t.cells)) end_row
-    ≡ Ok (whole (tables_of ts ++ table_of t.name t.cells ∷ [])) = rw (end_again (table_of t.name t.cells)) refl in
-    rows_push (whole (tables_of ts)) (within (tables_of ts) (table_of t.name t.cells))
-    (whole (tables_of ts ++ table_of t.name t.cells ∷ [])) (open_table_rows t) end_row (open_again ts t h) closes
+    let closes : book_line (within (tables_of ts) (spelled_table t)) end_row
+    ≡ Ok (whole (tables_of ts ++ spelled_table t ∷ [])) = rw (end_again (spelled_table t)) refl in
+    rows_push (whole (tables_of ts)) (within (tables_of ts) (spelled_table t))
+    (whole (tables_of ts ++ spelled_table t ∷ [])) (open_table_rows t) end_row (open_again ts t h) closes
     ∙ ap (λ (x : List Table). Ok (whole x)) (sym (tables_append ts t))
 
 tables_run :
@@ -180,7 +188,7 @@ tables_run :
     → rows_at (whole (tables_of done)) (tables_rows more) ≡ Ok (whole (tables_of (done ++ more)))
 tables_run done [] fits cells are = ap (λ (x : List TableText). Ok (whole (tables_of x))) (sym (append-nil done))
 tables_run done (t ∷ more) fits cells are =
-    let parts = map-append (λ (t : TableText). table_of t.name t.cells) done (t ∷ more) in
+    let parts = map-append (λ (t : TableText). spelled_table t) done (t ∷ more) in
     let stands = one_stands (tables_of done) (tables_of more) t (subst AreTables parts are) fits.0 cells.0 in
     let regroup = append_assoc done (t ∷ []) more in
     rows_append (whole (tables_of done)) (table_rows t) (tables_rows more)
@@ -269,7 +277,7 @@ book_stands : (ts : List TableText) → TablesStand ts → 0 < length ts → Boo
 book_stands ts s some = record {
   fits = (some, s.fits);
   cells = s.cells;
-  few = (let few = s.sound.few in omega (arith, length-map ts (λ (t : TableText). table_of t.name t.cells)));
+  few = (let few = s.sound.few in omega (arith, length-map ts (λ (t : TableText). spelled_table t)));
   names = s.sound.names;
 }
 
@@ -279,7 +287,7 @@ tables_of_book ts h = record {
   cells = h.cells;
   sound =
       record {
-        few = (let few = h.few in omega (arith, length-map ts (λ (t : TableText). table_of t.name t.cells)));
+        few = (let few = h.few in omega (arith, length-map ts (λ (t : TableText). spelled_table t)));
         names = h.names;
       };
 }

@@ -15,7 +15,7 @@ use Rattle.table_check.specs.declared.boards.Shape.{Shape}
 use Rattle.table_check.specs.declared.boards.Shape.TheVariants.{Plain, Cached}
 use Rattle.table_check.specs.declared.boards.Choose.{Choose}
 use Rattle.class_relation.specs.Rows.{rows}
-use Rattle.class_relation.specs.Tables.{Table, empty_table}
+use Rattle.class_relation.specs.Tables.{Table, no_table}
 use Rattle.table_check.specs.Reached.{Reached, is_reached}
 use Rattle.setup.specs.Setup.{Setup, BoardFits, ShapeFits, access_count}
 use Rattle.table_check.proofs.Reaching.{reached-test, test-reached}
@@ -143,8 +143,8 @@ tables_added_keep s t table tables r same d few new ok err = go r ok err
     longer : (b : BoardSpec) → BoardFits s b → BoardFits (record s { tables = s.tables ++ table ∷ [] }) b
     longer b h =
         let low : b.table < length s.tables = h.table in
-        let at : get_or (s.tables ++ table ∷ []) b.table (empty_table []) ≡ get_or s.tables b.table (empty_table []) =
-        get_or_append_left s.tables (table ∷ []) (empty_table []) b.table low in
+        let at : get_or (s.tables ++ table ∷ []) b.table no_table ≡ get_or s.tables b.table no_table =
+        get_or_append_left s.tables (table ∷ []) no_table b.table low in
         record {
           number_low = h.number_low;
           number_high = h.number_high;
@@ -206,6 +206,6 @@ pub board_fits :
 board_fits s number table shape choose low high known fits =
     record { number_low = low; number_high = high; table = known.0; shape = go shape fits }
   where
-    go : (shape : Shape) → IsShape table.1 shape → ShapeFits (get_or s.tables table.0 (empty_table [])) shape
-    go Plain h = invalid_only (get_or s.tables table.0 (empty_table [])) (sym known.1 ∙ h)
+    go : (shape : Shape) → IsShape table.1 shape → ShapeFits (get_or s.tables table.0 no_table) shape
+    go Plain h = invalid_only (get_or s.tables table.0 no_table) (sym known.1 ∙ h)
     go (Cached sets ways) h = h

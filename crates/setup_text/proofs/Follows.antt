@@ -1,14 +1,17 @@
 -- The lines that can follow the lines of a setup in some text of the productions.
 use Rattle.std.proofs.Common.{◌≡◌, ℕ, ◌<◌, ◌⊎◌, inl, inr, Bool, false, not, ◌&&◌, List, [], ◌∷◌, ◌++◌, map, length, refl, sym, ap, subst, ◌∙◌, append_assoc, arith, true}
+use Rattle.std.specs.Prelude.{codes}
+use Rattle.std.specs.Str.{bytes_eq}
 use Rattle.std.specs.List.{AllByRecursion}
-use Rattle.std.proofs.lemmas.Bool.{and_from}
+use Rattle.std.proofs.lemmas.Bool.{and_from, false≢true}
 use Rattle.fb_text.specs.Lines.{is_empty}
 use Rattle.fb_text.specs.Places.{Words}
 use Rattle.fb_text.proofs.LineLaws.{HasNext, BeginsLine}
 use Rattle.bus_signals.specs.declared.Access.{Access}
 use Rattle.bus_signals.specs.declared.Access.TheVariants as accesses
 use Rattle.class_relation.specs.Names.{is_name}
-use Rattle.table_text.specs.Spelling.{CellLine, local, answer, cell_words, HasAlternative}
+use Rattle.table_text.specs.Spelling.{CellLine, local, answer, cell_words, version_words, IsVersion, IsLineOf}
+use Rattle.table_text.proofs.Versions.{version_by_words}
 use Rattle.setup_text.specs.Spelling.{TableText, BoardText, SetupText, end_row, memory_row, arbiter_row, arbiter_rows, word_row, head_row, board_row, access_row, open_table_rows, table_rows, board_rows, tables_rows, open_rows, setup_rows, AccessFits, WordFits, TableFits, BoardFits, SetupFits}
 use Rattle.setup_text.specs.Grammars.{setup_grammar}
 use Rattle.setup_text.proofs.Growing.{each_push, each_before}
@@ -21,7 +24,7 @@ abbrev NoWordRow : List Words → Type 0
 NoWordRow Y = (w : ℕ × ℕ) (rest : List Words) → Y ≡ word_row w ∷ rest → ⊥
 
 abbrev NoHeadRow : List Words → Type 0
-NoHeadRow Y = (name : List ℕ) (rest : List Words) → Y ≡ head_row name ∷ rest → ⊥
+NoHeadRow Y = (name : List ℕ) (version : ℕ) (rest : List Words) → Y ≡ head_row name version ∷ rest → ⊥
 
 abbrev NoAccessRow : List Words → Type 0
 NoAccessRow Y = (a : Access) (rest : List Words) → Y ≡ access_row a ∷ rest → ⊥
@@ -50,7 +53,8 @@ peel_cells (c ∷ cs) (d ∷ ds) X Y e =
     let rest : map cell_words cs ++ (end_row ∷ X) ≡ map cell_words ds ++ (end_row ∷ Y) = cc in peel_cells cs ds X Y rest
 
 table_parts :
-    (t : TableText) (X : List Words) → table_rows t ++ X ≡ head_row t.name ∷ (map cell_words t.cells ++ (end_row ∷ X))
+    (t : TableText) (X : List Words)
+    → table_rows t ++ X ≡ head_row t.name t.version ∷ (map cell_words t.cells ++ (end_row ∷ X))
 table_parts t X = append_assoc (open_table_rows t) (end_row ∷ []) X
 
 pub peel_tables :
@@ -59,38 +63,42 @@ pub peel_tables :
     → (rest : List TableText) × AllByRecursion TableFits rest × (X ≡ tables_rows rest ++ Y)
 peel_tables [] us X Y fits none e = (us, fits, e)
 peel_tables (t ∷ ts) [] X Y fits none e =
-    absurd (none t.name (map cell_words t.cells ++ (end_row ∷ (tables_rows ts ++ X)))
+    absurd (none t.name t.version (map cell_words t.cells ++ (end_row ∷ (tables_rows ts ++ X)))
     (sym e ∙ (append_assoc (table_rows t) (tables_rows ts) X ∙ table_parts t (tables_rows ts ++ X))))
 peel_tables (t ∷ ts) (u ∷ us) X Y fits none e =
-    let both : head_row t.name ∷ (map cell_words t.cells ++ (end_row ∷ (tables_rows ts ++ X)))
-    ≡ head_row u.name ∷ (map cell_words u.cells ++ (end_row ∷ (tables_rows us ++ Y))) =
+    let both : head_row t.name t.version ∷ (map cell_words t.cells ++ (end_row ∷ (tables_rows ts ++ X)))
+    ≡ head_row u.name u.version ∷ (map cell_words u.cells ++ (end_row ∷ (tables_rows us ++ Y))) =
     sym (append_assoc (table_rows t) (tables_rows ts) X ∙ table_parts t (tables_rows ts ++ X))
     ∙ (e ∙ (append_assoc (table_rows u) (tables_rows us) Y ∙ table_parts u (tables_rows us ++ Y))) in
     let rest : map cell_words t.cells ++ (end_row ∷ (tables_rows ts ++ X))
     ≡ map cell_words u.cells ++ (end_row ∷ (tables_rows us ++ Y)) = cc in
     peel_tables ts us X Y fits.1 none (peel_cells t.cells u.cells (tables_rows ts ++ X) (tables_rows us ++ Y) rest)
 
--- what can follow some of the cell lines of a table
-pub data InTable (l : Words) : Type 0 where
-  cell : (c : CellLine) → HasAlternative c → l ≡ cell_words c → InTable l
-  closes : l ≡ end_row → InTable l
+-- what can stand in a table of this version after some of its cell lines
+pub data InTable (version : ℕ) (l : Words) : Type 0 where
+  cell : (c : CellLine) → IsLineOf version c → l ≡ cell_words c → InTable version l
+  closes : l ≡ end_row → InTable version l
 
 pub table_follows :
-    (name : List ℕ) (cs : List CellLine) (l : Words) (others : List Words) (us : List TableText) (Y : List Words)
-    → AllByRecursion TableFits us → NoHeadRow Y
-    → open_table_rows (table_text name cs) ++ (l ∷ others) ≡ tables_rows us ++ Y → InTable l
-table_follows name cs l others [] Y fits none e = absurd (none name (map cell_words cs ++ (l ∷ others)) (sym e))
-table_follows name cs l others (u ∷ us) Y fits none e =
-    let both : head_row name ∷ (map cell_words cs ++ (l ∷ others))
-    ≡ head_row u.name ∷ (map cell_words u.cells ++ (end_row ∷ (tables_rows us ++ Y))) =
+    (name : List ℕ) (version : ℕ) (cs : List CellLine) (l : Words) (others : List Words) (us : List TableText)
+    (Y : List Words) → IsVersion version → AllByRecursion TableFits us → NoHeadRow Y
+    → open_table_rows (table_text name version cs) ++ (l ∷ others) ≡ tables_rows us ++ Y → InTable version l
+table_follows name version cs l others [] Y known fits none e =
+    absurd (none name version (map cell_words cs ++ (l ∷ others)) (sym e))
+table_follows name version cs l others (u ∷ us) Y known fits none e =
+    let both : head_row name version ∷ (map cell_words cs ++ (l ∷ others))
+    ≡ head_row u.name u.version ∷ (map cell_words u.cells ++ (end_row ∷ (tables_rows us ++ Y))) =
     e ∙ (append_assoc (table_rows u) (tables_rows us) Y ∙ table_parts u (tables_rows us ++ Y)) in
     let rest : map cell_words cs ++ (l ∷ others) ≡ map cell_words u.cells ++ (end_row ∷ (tables_rows us ++ Y)) = cc in
     let both_fit = fits.0 in
-    go cs u.cells both_fit.cells rest
+    let head : version_words version ≡ version_words u.version = cc in
+    let same = version_by_words version u.version known both_fit.version head in
+    go cs u.cells (subst (λ (v : ℕ). AllByRecursion (IsLineOf v) u.cells) (sym same) both_fit.cells) rest
   where
     go :
-        (cs ds : List CellLine) → AllByRecursion HasAlternative ds
-        → map cell_words cs ++ (l ∷ others) ≡ map cell_words ds ++ (end_row ∷ (tables_rows us ++ Y)) → InTable l
+        (cs ds : List CellLine) → AllByRecursion (IsLineOf version) ds
+        → map cell_words cs ++ (l ∷ others) ≡ map cell_words ds ++ (end_row ∷ (tables_rows us ++ Y))
+        → InTable version l
     go [] [] some e = let a : l ≡ end_row = cc in closes a
     go [] (d ∷ ds) some e = let a : l ≡ cell_words d = cc in cell d some.0 a
     go (c ∷ cs) [] some e = absurd (let same : cell_words c ≡ end_row = cc in no_cell_end c same)
@@ -110,12 +118,14 @@ no_access_board (accesses.Read x) b h = cc
 no_access_board (accesses.Write x y) b h = cc
 no_access_board (accesses.Pass x) b h = cc
 no_access_board (accesses.Flush x) b h = cc
+no_access_board (accesses.Swap x y) b h = cc
 
 no_access_end : (a : Access) → access_row a ≡ end_row → ⊥
 no_access_end (accesses.Read x) h = cc
 no_access_end (accesses.Write x y) h = cc
 no_access_end (accesses.Pass x) h = cc
 no_access_end (accesses.Flush x) h = cc
+no_access_end (accesses.Swap x y) h = cc
 
 abbrev boards_rows : List BoardText → List Words
 boards_rows [] = []
@@ -172,16 +182,30 @@ boards_follow (b ∷ bs) (d ∷ ds) l others fits e =
 pub data Follows (s : SetupText) (l : Words) (others : List Words) : Type 0 where
   arbiter : l ≡ arbiter_row → is_bare s ≡ true → Follows s l others
   word : (w : ℕ × ℕ) → WordFits w → l ≡ word_row w → s.tables ≡ [] → s.boards ≡ [] → Follows s l others
-  head : (name : List ℕ) → is_name name ≡ true → l ≡ head_row name → s.boards ≡ [] → Follows s l others
+  head :
+      (name : List ℕ) (version : ℕ) → is_name name ≡ true → IsVersion version → l ≡ head_row name version
+      → s.boards ≡ [] → Follows s l others
   next : InBoards s.boards l others → Follows s l others
 
 no_word_boards : (ds : List BoardText) → NoWordRow (boards_rows ds ++ (end_row ∷ []))
 no_word_boards [] w rest e = cc
 no_word_boards (d ∷ ds) w rest e = cc
 
+-- the first word of the first of some lines
+abbrev opening_word : List Words → List ℕ
+opening_word [] = []
+opening_word ([] ∷ rest) = []
+opening_word ((w ∷ ws) ∷ rest) = w
+
+no_board_table : ◌≡◌ {A = List ℕ} (codes "board") (codes "table") → ⊥
+no_board_table h = false≢true (ap (λ (w : List ℕ). bytes_eq w (codes "table")) h)
+
+no_end_table : ◌≡◌ {A = List ℕ} (codes "end") (codes "table") → ⊥
+no_end_table h = false≢true (ap (λ (w : List ℕ). bytes_eq w (codes "table")) h)
+
 no_head_boards : (ds : List BoardText) → NoHeadRow (boards_rows ds ++ (end_row ∷ []))
-no_head_boards [] name rest e = cc
-no_head_boards (d ∷ ds) name rest e = cc
+no_head_boards [] name version rest e = no_end_table (ap opening_word e)
+no_head_boards (d ∷ ds) name version rest e = no_board_table (ap opening_word e)
 
 no_word_tables :
     (us : List TableText) (ds : List BoardText) → NoWordRow (tables_rows us ++ (boards_rows ds ++ (end_row ∷ [])))
@@ -275,8 +299,9 @@ follows s r l others fits e = there (behind s r (l ∷ others) fits e)
     tables [] ds fu fd bs same e =
         next (subst (λ (x : List BoardText). InBoards x l others) (sym same) (boards_follow bs ds l others fd e))
     tables (u ∷ us) ds fu fd [] same e =
-        let fit = fu.0 in let here : l ≡ head_row u.name = cc in head u.name fit.name here same
-    tables (u ∷ us) ds fu fd (b ∷ bs) same e = absurd cc
+        let fit = fu.0 in let here : l ≡ head_row u.name u.version = cc in
+        head u.name u.version fit.name fit.version here same
+    tables (u ∷ us) ds fu fd (b ∷ bs) same e = absurd (no_board_table (ap opening_word e))
 
     no_words :
         (vs : List (ℕ × ℕ)) (us : List TableText) (ds : List BoardText) → AllByRecursion WordFits vs
@@ -301,9 +326,9 @@ follows s r l others fits e = there (behind s r (l ∷ others) fits e)
 
 -- a line after the lines of an open table
 pub follows_open :
-    (s r : SetupText) (t : TableText) (l : Words) (others : List Words) → s.boards ≡ [] → SetupFits r
-    → setup_rows r ≡ (open_rows s ++ open_table_rows t) ++ l ∷ others → InTable l
-follows_open s r t l others none fits e =
+    (s r : SetupText) (t : TableText) (l : Words) (others : List Words) → IsVersion t.version → s.boards ≡ []
+    → SetupFits r → setup_rows r ≡ (open_rows s ++ open_table_rows t) ++ l ∷ others → InTable t.version l
+follows_open s r t l others known none fits e =
     go (behind s r (open_table_rows t ++ l ∷ others) fits
     (e ∙ append_assoc (open_rows s) (open_table_rows t) (l ∷ others)))
   where
@@ -311,15 +336,18 @@ follows_open s r t l others none fits e =
         (vs : List (ℕ × ℕ)) (us : List TableText) (ds : List BoardText) → AllByRecursion TableFits us
         → (ts : List TableText)
         → tables_rows ts ++ (open_table_rows t ++ l ∷ others)
-        ≡ map word_row vs ++ (tables_rows us ++ (boards_rows ds ++ (end_row ∷ []))) → InTable l
+        ≡ map word_row vs ++ (tables_rows us ++ (boards_rows ds ++ (end_row ∷ []))) → InTable t.version l
     no_words [] us ds fu ts e =
         let p = peel_tables ts us (open_table_rows t ++ l ∷ others) (boards_rows ds ++ (end_row ∷ [])) fu
         (no_head_boards ds) e in
-        table_follows t.name t.cells l others p.0 (boards_rows ds ++ (end_row ∷ [])) p.1 (no_head_boards ds) p.2
+        table_follows t.name t.version t.cells l others p.0 (boards_rows ds ++ (end_row ∷ [])) known p.1
+        (no_head_boards ds) p.2
     no_words (v ∷ vs) us ds fu [] e = absurd cc
     no_words (v ∷ vs) us ds fu (u ∷ ts) e = absurd cc
 
-    go : Behind s (open_table_rows t ++ l ∷ others) ⊎ IsArbiter s (open_table_rows t ++ l ∷ others) → InTable l
+    go :
+        Behind s (open_table_rows t ++ l ∷ others) ⊎ IsArbiter s (open_table_rows t ++ l ∷ others)
+        → InTable t.version l
     go (inr (bare, more, e)) = absurd cc
     go (inl (vs, us, ds, fv, fu, fd, e)) =
         no_words vs us ds fu s.tables
@@ -335,7 +363,7 @@ nothing_follows s r l others fits e =
     go : Follows s end_row (l ∷ others) → ⊥
     go (arbiter h bare) = cc
     go (word w f h st sb) = cc
-    go (head name f h sb) = cc
+    go (head name version f known h sb) = cc
     go (next (board b f h)) = cc
     go (next (access a f h some)) = no_access_end a (sym h)
     go (next (ends h none)) = cc
@@ -366,20 +394,20 @@ next_word n ws w fits f =
     (rows_word n ws w)
 
 pub next_head :
-    (n : Opener) (ws : List (ℕ × ℕ)) (ts : List TableText) (name : List ℕ) → SetupFits (text n ws ts [])
-    → is_name name ≡ true → Next (open_rows (text n ws ts [])) (head_row name)
-next_head n ws ts name fits f =
-    let t = table_text name [] in (
+    (n : Opener) (ws : List (ℕ × ℕ)) (ts : List TableText) (name : List ℕ) (version : ℕ) → SetupFits (text n ws ts [])
+    → is_name name ≡ true → IsVersion version → Next (open_rows (text n ws ts [])) (head_row name version)
+next_head n ws ts name version fits f known =
+    let t = table_text name version [] in (
       text n ws (ts ++ t ∷ []) [],
       end_row ∷ end_row ∷ [],
       record {
         lines = fits.lines;
         words = fits.words;
-        tables = each_push TableFits ts t fits.tables (record { name = f; cells = tt });
+        tables = each_push TableFits ts t fits.tables (record { name = f; version = known; cells = tt });
         boards = tt;
       },
       ap (λ (v : List Words). v ++ end_row ∷ []) (rows_table n ws ts t)
-          ∙ append_assoc (open_rows (text n ws ts [])) (head_row name ∷ end_row ∷ []) (end_row ∷ []),
+          ∙ append_assoc (open_rows (text n ws ts [])) (head_row name version ∷ end_row ∷ []) (end_row ∷ []),
     )
 
 pub next_board :

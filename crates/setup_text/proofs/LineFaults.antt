@@ -20,6 +20,7 @@ use Rattle.setup.specs.Setup.{access_count}
 use Rattle.table_text.specs.Reading.{◌>>=◌}
 use Rattle.setup_text.specs.declared.fault.SetupKind.{SetupKind}
 use Rattle.setup_text.specs.declared.fault.SetupKind.TheVariants.{UnknownWord, Number}
+use Rattle.table_text.specs.Spelling.{version_words, IsVersion}
 use Rattle.setup_text.specs.Spelling.{BoardText, SetupText, board_row, access_row, open_rows, setup_rows, WordFits, AccessFits, BoardFits}
 use Rattle.setup_text.specs.Values.{setup_of}
 use Rattle.setup_text.specs.Standing.{StandsSoFar}
@@ -113,6 +114,7 @@ word_is_free s k (inr (inr (inr ((events.Read, h), e, x)))) = differ h refl
 word_is_free s k (inr (inr (inr ((events.Write, h), e, x)))) = differ h refl
 word_is_free s k (inr (inr (inr ((events.Pass, h), e, x)))) = differ h refl
 word_is_free s k (inr (inr (inr ((events.Flush, h), e, x)))) = differ h refl
+word_is_free s k (inr (inr (inr ((events.Swap, h), e, x)))) = differ h refl
 
 pub board_is_free : (s : SetupText) → length (setup_of s).boards < 16 → FirstFree s (codes "board")
 board_is_free s few k (inl h) = differ h.0 refl
@@ -122,6 +124,7 @@ board_is_free s few k (inr (inr (inr ((events.Read, h), e, x)))) = differ h refl
 board_is_free s few k (inr (inr (inr ((events.Write, h), e, x)))) = differ h refl
 board_is_free s few k (inr (inr (inr ((events.Pass, h), e, x)))) = differ h refl
 board_is_free s few k (inr (inr (inr ((events.Flush, h), e, x)))) = differ h refl
+board_is_free s few k (inr (inr (inr ((events.Swap, h), e, x)))) = differ h refl
 
 pub end_is_free : (s : SetupText) → 0 < length (setup_of s).boards → FirstFree s (codes "end")
 end_is_free s some k (inl h) = differ h.0 refl
@@ -131,6 +134,7 @@ end_is_free s some k (inr (inr (inr ((events.Read, h), e, x)))) = differ h refl
 end_is_free s some k (inr (inr (inr ((events.Write, h), e, x)))) = differ h refl
 end_is_free s some k (inr (inr (inr ((events.Pass, h), e, x)))) = differ h refl
 end_is_free s some k (inr (inr (inr ((events.Flush, h), e, x)))) = differ h refl
+end_is_free s some k (inr (inr (inr ((events.Swap, h), e, x)))) = differ h refl
 
 no_event :
     (event : LocalEvent)
@@ -140,6 +144,7 @@ no_event events.Read = (λ h. differ h refl, λ h. differ h refl, λ h. differ h
 no_event events.Write = (λ h. differ h refl, λ h. differ h refl, λ h. differ h refl)
 no_event events.Pass = (λ h. differ h refl, λ h. differ h refl, λ h. differ h refl)
 no_event events.Flush = (λ h. differ h refl, λ h. differ h refl, λ h. differ h refl)
+no_event events.Swap = (λ h. differ h refl, λ h. differ h refl, λ h. differ h refl)
 
 pub event_is_free :
     (s : SetupText) (event : LocalEvent) → access_count (setup_of s) < 100000 → FirstFree s (local_event_word event)
@@ -346,17 +351,19 @@ arbiter_is_free s k (inr (inr (inr ((events.Read, h), e, x)))) = differ h refl
 arbiter_is_free s k (inr (inr (inr ((events.Write, h), e, x)))) = differ h refl
 arbiter_is_free s k (inr (inr (inr ((events.Pass, h), e, x)))) = differ h refl
 arbiter_is_free s k (inr (inr (inr ((events.Flush, h), e, x)))) = differ h refl
+arbiter_is_free s k (inr (inr (inr ((events.Swap, h), e, x)))) = differ h refl
 
 pub only_arbiter :
     (s : SetupText) (t : Words) (others : List Words) → Follows s (codes "arbiter" ∷ t) others → t ≡ codes "fair" ∷ []
 only_arbiter s t others (arbiter h bare) = cc
 only_arbiter s t others (word_follows w f h a b) = absurd (no_row (codes "arbiter") h refl refl)
-only_arbiter s t others (head name f h b) = absurd (no_row (codes "arbiter") h refl refl)
+only_arbiter s t others (head name v f known h b) = absurd (no_row (codes "arbiter") h refl refl)
 only_arbiter s t others (next (board b f h)) = absurd (no_row (codes "arbiter") h refl refl)
 only_arbiter s t others (next (access (accesses.Read x) f h some)) = absurd (no_row (codes "arbiter") h refl refl)
 only_arbiter s t others (next (access (accesses.Write x y) f h some)) = absurd (no_row (codes "arbiter") h refl refl)
 only_arbiter s t others (next (access (accesses.Pass x) f h some)) = absurd (no_row (codes "arbiter") h refl refl)
 only_arbiter s t others (next (access (accesses.Flush x) f h some)) = absurd (no_row (codes "arbiter") h refl refl)
+only_arbiter s t others (next (access (accesses.Swap x y) f h some)) = absurd (no_row (codes "arbiter") h refl refl)
 only_arbiter s t others (next (ends h none)) = absurd (no_row (codes "arbiter") h refl refl)
 
 pub only_word :
@@ -364,25 +371,28 @@ pub only_word :
     → (w : ℕ × ℕ) × WordFits w × (t ≡ decimal w.0 ∷ decimal w.1 ∷ [])
 only_word s t others (arbiter h bare) = absurd (no_row (codes "word") h refl refl)
 only_word s t others (word_follows w f h a b) = (w, f, cc)
-only_word s t others (head name f h b) = absurd (no_row (codes "word") h refl refl)
+only_word s t others (head name v f known h b) = absurd (no_row (codes "word") h refl refl)
 only_word s t others (next (board b f h)) = absurd (no_row (codes "word") h refl refl)
 only_word s t others (next (access (accesses.Read x) f h some)) = absurd (no_row (codes "word") h refl refl)
 only_word s t others (next (access (accesses.Write x y) f h some)) = absurd (no_row (codes "word") h refl refl)
 only_word s t others (next (access (accesses.Pass x) f h some)) = absurd (no_row (codes "word") h refl refl)
 only_word s t others (next (access (accesses.Flush x) f h some)) = absurd (no_row (codes "word") h refl refl)
+only_word s t others (next (access (accesses.Swap x y) f h some)) = absurd (no_row (codes "word") h refl refl)
 only_word s t others (next (ends h none)) = absurd (no_row (codes "word") h refl refl)
 
 pub only_head :
     (s : SetupText) (t : Words) (others : List Words) → Follows s (codes "table" ∷ t) others
-    → (name : List ℕ) × (is_name name ≡ true) × (t ≡ name ∷ []) × (s.boards ≡ [])
+    → (name : List ℕ) × (version : ℕ) × (is_name name ≡ true) × IsVersion version × (t ≡ name ∷ version_words version)
+    × (s.boards ≡ [])
 only_head s t others (arbiter h bare) = absurd (no_row (codes "table") h refl refl)
 only_head s t others (word_follows w f h a b) = absurd (no_row (codes "table") h refl refl)
-only_head s t others (head name f h b) = (name, f, cc, b)
+only_head s t others (head name v f known h b) = (name, v, f, known, cc, b)
 only_head s t others (next (board b f h)) = absurd (no_row (codes "table") h refl refl)
 only_head s t others (next (access (accesses.Read x) f h some)) = absurd (no_row (codes "table") h refl refl)
 only_head s t others (next (access (accesses.Write x y) f h some)) = absurd (no_row (codes "table") h refl refl)
 only_head s t others (next (access (accesses.Pass x) f h some)) = absurd (no_row (codes "table") h refl refl)
 only_head s t others (next (access (accesses.Flush x) f h some)) = absurd (no_row (codes "table") h refl refl)
+only_head s t others (next (access (accesses.Swap x y) f h some)) = absurd (no_row (codes "table") h refl refl)
 only_head s t others (next (ends h none)) = absurd (no_row (codes "table") h refl refl)
 
 pub only_board :
@@ -390,23 +400,25 @@ pub only_board :
     → (b : BoardText) × BoardFits b × (codes "board" ∷ t ≡ board_row b)
 only_board s t others (arbiter h bare) = absurd (no_row (codes "board") h refl refl)
 only_board s t others (word_follows w f h a b) = absurd (no_row (codes "board") h refl refl)
-only_board s t others (head name f h b) = absurd (no_row (codes "board") h refl refl)
+only_board s t others (head name v f known h b) = absurd (no_row (codes "board") h refl refl)
 only_board s t others (next (board b f h)) = (b, f, h)
 only_board s t others (next (access (accesses.Read x) f h some)) = absurd (no_row (codes "board") h refl refl)
 only_board s t others (next (access (accesses.Write x y) f h some)) = absurd (no_row (codes "board") h refl refl)
 only_board s t others (next (access (accesses.Pass x) f h some)) = absurd (no_row (codes "board") h refl refl)
 only_board s t others (next (access (accesses.Flush x) f h some)) = absurd (no_row (codes "board") h refl refl)
+only_board s t others (next (access (accesses.Swap x y) f h some)) = absurd (no_row (codes "board") h refl refl)
 only_board s t others (next (ends h none)) = absurd (no_row (codes "board") h refl refl)
 
 pub only_end : (s : SetupText) (t : Words) (others : List Words) → Follows s (codes "end" ∷ t) others → t ≡ []
 only_end s t others (arbiter h bare) = absurd (no_row (codes "end") h refl refl)
 only_end s t others (word_follows w f h a b) = absurd (no_row (codes "end") h refl refl)
-only_end s t others (head name f h b) = absurd (no_row (codes "end") h refl refl)
+only_end s t others (head name v f known h b) = absurd (no_row (codes "end") h refl refl)
 only_end s t others (next (board b f h)) = absurd (no_row (codes "end") h refl refl)
 only_end s t others (next (access (accesses.Read x) f h some)) = absurd (no_row (codes "end") h refl refl)
 only_end s t others (next (access (accesses.Write x y) f h some)) = absurd (no_row (codes "end") h refl refl)
 only_end s t others (next (access (accesses.Pass x) f h some)) = absurd (no_row (codes "end") h refl refl)
 only_end s t others (next (access (accesses.Flush x) f h some)) = absurd (no_row (codes "end") h refl refl)
+only_end s t others (next (access (accesses.Swap x y) f h some)) = absurd (no_row (codes "end") h refl refl)
 only_end s t others (next (ends h none)) = cc
 
 -- the tail of an access's line
@@ -415,6 +427,7 @@ EventTail events.Read t = (x : ℕ) × (x < 2 ^ 32) × (t ≡ decimal x ∷ [])
 EventTail events.Write t = (x : ℕ) × (y : ℕ) × (x < 2 ^ 32) × (y < 2 ^ 32) × (t ≡ decimal x ∷ decimal y ∷ [])
 EventTail events.Pass t = (x : ℕ) × (x < 2 ^ 32) × (t ≡ decimal x ∷ [])
 EventTail events.Flush t = (x : ℕ) × (x < 2 ^ 32) × (t ≡ decimal x ∷ [])
+EventTail events.Swap t = (x : ℕ) × (y : ℕ) × (x < 2 ^ 32) × (y < 2 ^ 32) × (t ≡ decimal x ∷ decimal y ∷ [])
 
 row_tail :
     (event : LocalEvent) (a : Access) (t : Words) → AccessFits a → local_event_word event ∷ t ≡ access_row a
@@ -423,18 +436,27 @@ row_tail events.Read (accesses.Read x) t f h = (x, f, cc)
 row_tail events.Read (accesses.Write x y) t f h = absurd (no_row (codes "read") h refl refl)
 row_tail events.Read (accesses.Pass x) t f h = absurd (no_row (codes "read") h refl refl)
 row_tail events.Read (accesses.Flush x) t f h = absurd (no_row (codes "read") h refl refl)
+row_tail events.Read (accesses.Swap x y) t f h = absurd (no_row (codes "read") h refl refl)
 row_tail events.Write (accesses.Read x) t f h = absurd (no_row (codes "write") h refl refl)
 row_tail events.Write (accesses.Write x y) t f h = (x, y, f.0, f.1, cc)
 row_tail events.Write (accesses.Pass x) t f h = absurd (no_row (codes "write") h refl refl)
 row_tail events.Write (accesses.Flush x) t f h = absurd (no_row (codes "write") h refl refl)
+row_tail events.Write (accesses.Swap x y) t f h = absurd (no_row (codes "write") h refl refl)
 row_tail events.Pass (accesses.Read x) t f h = absurd (no_row (codes "pass") h refl refl)
 row_tail events.Pass (accesses.Write x y) t f h = absurd (no_row (codes "pass") h refl refl)
 row_tail events.Pass (accesses.Pass x) t f h = (x, f, cc)
 row_tail events.Pass (accesses.Flush x) t f h = absurd (no_row (codes "pass") h refl refl)
+row_tail events.Pass (accesses.Swap x y) t f h = absurd (no_row (codes "pass") h refl refl)
 row_tail events.Flush (accesses.Read x) t f h = absurd (no_row (codes "flush") h refl refl)
 row_tail events.Flush (accesses.Write x y) t f h = absurd (no_row (codes "flush") h refl refl)
 row_tail events.Flush (accesses.Pass x) t f h = absurd (no_row (codes "flush") h refl refl)
 row_tail events.Flush (accesses.Flush x) t f h = (x, f, cc)
+row_tail events.Flush (accesses.Swap x y) t f h = absurd (no_row (codes "flush") h refl refl)
+row_tail events.Swap (accesses.Read x) t f h = absurd (no_row (codes "swap") h refl refl)
+row_tail events.Swap (accesses.Write x y) t f h = absurd (no_row (codes "swap") h refl refl)
+row_tail events.Swap (accesses.Pass x) t f h = absurd (no_row (codes "swap") h refl refl)
+row_tail events.Swap (accesses.Flush x) t f h = absurd (no_row (codes "swap") h refl refl)
+row_tail events.Swap (accesses.Swap x y) t f h = (x, y, f.0, f.1, cc)
 
 no_event_row :
     (event : LocalEvent) (v : List ℕ) (t u : Words) → (local_event_word event ≡ v → ⊥)
@@ -446,12 +468,14 @@ event_no_word events.Read h = differ h refl
 event_no_word events.Write h = differ h refl
 event_no_word events.Pass h = differ h refl
 event_no_word events.Flush h = differ h refl
+event_no_word events.Swap h = differ h refl
 
 event_no_arbiter : (event : LocalEvent) → local_event_word event ≡ codes "arbiter" → ⊥
 event_no_arbiter events.Read h = differ h refl
 event_no_arbiter events.Write h = differ h refl
 event_no_arbiter events.Pass h = differ h refl
 event_no_arbiter events.Flush h = differ h refl
+event_no_arbiter events.Swap h = differ h refl
 
 pub only_access :
     (s : SetupText) (event : LocalEvent) (t : Words) (others : List Words)
@@ -460,8 +484,8 @@ only_access s event t others (arbiter h bare) =
     absurd (no_event_row event (codes "arbiter") t (codes "fair" ∷ []) (event_no_arbiter event) h)
 only_access s event t others (word_follows w f h a b) =
     let x = no_event_row event (codes "word") t (decimal w.0 ∷ decimal w.1 ∷ []) (event_no_word event) h in absurd x
-only_access s event t others (head name f h b) =
-    absurd (no_event_row event (codes "table") t (name ∷ []) (no_event event).0 h)
+only_access s event t others (head name v f known h b) =
+    absurd (no_event_row event (codes "table") t (name ∷ version_words v) (no_event event).0 h)
 only_access s event t others (next (board b f h)) =
     absurd (no_event_row event (codes "board") t (drop 1 (board_row b)) (no_event event).1 h)
 only_access s event t others (next (access a f h some)) = (row_tail event a t f h, some)

@@ -7,14 +7,15 @@ use Rattle.fb_text.specs.Lines.{is_empty}
 use Rattle.fb_text.specs.Unread.{Unread, Line, first, has_line, at_next_line, after_word}
 use Rattle.class_relation.specs.Tables.{Table, empty_table}
 use Rattle.setup.specs.Setup.{Setup}
-use Rattle.table_text.specs.Reading.{◌>>=◌, StaysOnLine, table_line, table_at}
+use Rattle.table_text.specs.Reading.{◌>>=◌, StaysOnLine, version_at, table_line, table_lines, table_at}
+use Rattle.table_text.specs.Reading as TableReading
 use Rattle.table_text.specs.declared.fault.TableKind.{TableKind}
 use Rattle.setup_text.specs.declared.fault.SetupFault.{SetupFault}
 use Rattle.setup_text.specs.declared.fault.SetupFault.TheVariants as faults
 use Rattle.setup_text.specs.declared.fault.SetupKind.{SetupKind}
 use Rattle.setup_text.specs.declared.fault.SetupKind.TheVariants.{UnknownWord, NoEnd}
 use Rattle.setup_text.specs.Drafts.{with_table}
-use Rattle.setup_text.specs.Reading.{Mode, start, body, in_table, ended, BookMode, Fault, Gives, Fails, FailsAs, Answers, GoesOn, on_line, then_lines, this_word, head_name, head_line, line_ends, table_head, book_head, whole_table, as_setup_fault, first_line, body_line, line_at, lines_at, text_ends, book_line, book_lines, book_ends, place_in, places_on, schedule_lines, as_setup_kind, after_table_line, after_book_line, mode_after}
+use Rattle.setup_text.specs.Reading.{Mode, start, body, in_table, ended, BookMode, Fault, Gives, Fails, FailsAs, Answers, GoesOn, on_line, then_lines, this_word, head_name, head_line, with_version, line_ends, table_head, book_head, whole_table, as_setup_fault, first_line, body_line, line_at, lines_at, text_ends, book_line, book_lines, book_ends, place_in, places_on, schedule_lines, as_setup_kind, after_table_line, after_book_line, mode_after}
 use Rattle.setup_text.proofs.TableLines.{through_lines}
 
 abbrev at : ℕ → Words → List Line → ℕ → Unread
@@ -132,6 +133,10 @@ book_none m n ws (l ∷ ls) end h = absurd cc
 
 -- ---- a table in a text
 
+-- the name and the version of a table, from its name and the words after it
+abbrev pub head_with : Result (List ℕ × Words) SetupKind → Result (List ℕ × ℕ) SetupKind
+head_with x = x >>= λ n. with_version n.0 (version_at n.1)
+
 -- what follows a table that was read
 module _ {M R : Type 0} (lines : M → List Line → ℕ → Result R Fault) (within whole : Table → M)
     (none : (t : Table) (end : ℕ) → lines (within t) [] end ≡ Err (record { line = end; kind = NoEnd }))
@@ -141,31 +146,32 @@ module _ {M R : Type 0} (lines : M → List Line → ℕ → Result R Fault) (wi
     λ x. cond x.0 (lines (whole x.1) ls end) (lines (within x.1) ls end))) where
   pub table_goes :
       (tables : List Table) (u : Unread)
-      → then_lines lines u (head_line tables u.words >>= λ name. Ok (within (empty_table name)))
+      → then_lines lines u (head_line tables u.words >>= λ x. Ok (within (empty_table x.0 x.1)))
       ≡ (whole_table tables u >>= λ r. lines (whole r.0) r.1.lines r.1.end)
   unfolding whole_table table_at
   table_goes tables u = go (head_name tables u.words)
     where
       rest :
-          (name : List ℕ) (ws : Words)
-          → (on_line u.line (line_ends ws >>= λ _. Ok name) >>= λ name. lines (within (empty_table name)) u.lines u.end)
-          ≡ (as_setup_fault (table_at name (record u { words = ws })) >>= λ r. lines (whole r.0) r.1.lines r.1.end)
-      rest name [] =
-          through_lines (λ t. lines (within t)) (λ t. lines (whole t)) none one (empty_table name) u.lines u.end
-      rest name (w ∷ ws) = refl
+          (name : List ℕ) (x : Result ℕ TableKind)
+          → then_lines lines u (with_version name x >>= λ x. Ok (within (empty_table x.0 x.1)))
+          ≡ (as_setup_fault ((TableReading.on_line u.line x) >>=
+          λ version. table_lines (empty_table name version) u.lines u.end) >>=
+          λ r. lines (whole r.0) r.1.lines r.1.end)
+      rest name (Ok v) =
+          through_lines (λ t. lines (within t)) (λ t. lines (whole t)) none one (empty_table name v) u.lines u.end
+      rest name (Err k) = refl
 
       go :
           (x : Result (List ℕ × Words) SetupKind)
-          → then_lines lines u ((x >>= λ n. line_ends n.1 >>= λ _. Ok n.0) >>= λ name. Ok (within (empty_table name)))
+          → then_lines lines u (head_with x >>= λ x. Ok (within (empty_table x.0 x.1)))
           ≡ ((on_line u.line x >>= λ n. as_setup_fault (table_at n.0 (record u { words = n.1 }))) >>=
           λ r. lines (whole r.0) r.1.lines r.1.end)
       go (Err k) = refl
-      go (Ok (name, [])) = rest name []
-      go (Ok (name, w ∷ ws)) = refl
+      go (Ok (name, ws)) = rest name (version_at ws)
 
 pub setup_table :
     (setup : Setup) (u : Unread)
-    → then_lines lines_at u (head_line setup.tables u.words >>= λ name. Ok (in_table setup (empty_table name)))
+    → then_lines lines_at u (head_line setup.tables u.words >>= λ x. Ok (in_table setup (empty_table x.0 x.1)))
     ≡ (whole_table setup.tables u >>= λ r. lines_at (body (with_table setup r.0)) r.1.lines r.1.end)
 unfolding lines_at
 setup_table setup u =
@@ -183,7 +189,7 @@ setup_table setup u =
 
 pub book_table :
     (tables : List Table) (u : Unread)
-    → then_lines book_lines u (head_line tables u.words >>= λ name. Ok (BookMode.within tables (empty_table name)))
+    → then_lines book_lines u (head_line tables u.words >>= λ x. Ok (BookMode.within tables (empty_table x.0 x.1)))
     ≡ (whole_table tables u >>= λ r. book_lines (BookMode.whole (tables ++ r.0 ∷ [])) r.1.lines r.1.end)
 unfolding book_lines
 book_table tables u =
@@ -218,7 +224,7 @@ table_failed (faults.Bad line kind) read x f e h = e ∙ rw h refl
 pub head_begun :
     (setup : Setup) (u : Unread) → is_empty setup.boards ≡ true
     → then_lines lines_at u (table_head setup u.words)
-    ≡ then_lines lines_at u (head_line setup.tables u.words >>= λ name. Ok (in_table setup (empty_table name)))
+    ≡ then_lines lines_at u (head_line setup.tables u.words >>= λ x. Ok (in_table setup (empty_table x.0 x.1)))
 head_begun setup u none = rw none refl
 
 pub no_boards :
@@ -232,7 +238,7 @@ no_boards setup boards same e = rw (← same) (go boards e)
 pub book_begun :
     (tables : List Table) (u v : Unread) → this_word (codes "table") u.words ≡ Ok v.words → StaysOnLine u v
     → then_lines book_lines u (book_head tables u.words)
-    ≡ then_lines book_lines v (head_line tables v.words >>= λ name. Ok (BookMode.within tables (empty_table name)))
+    ≡ then_lines book_lines v (head_line tables v.words >>= λ x. Ok (BookMode.within tables (empty_table x.0 x.1)))
 book_begun tables u v e stays = rw (e, stays.line, stays.lines, stays.end) refl
 
 -- ---- the first line and the end of a setup

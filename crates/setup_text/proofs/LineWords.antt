@@ -1,5 +1,5 @@
 -- What the words of a line are where they were read.
-use Rattle.std.proofs.Common.{◌≡◌, ℕ, ◌+◌, ◌*◌, ◌<◌, ◌≤◌, ◌^◌, Bool, true, false, cond, ◌||◌, eqb, ltb, List, [], ◌∷◌, ◌++◌, map, length, Option, Some, None, Result, Ok, Err, refl, sym, ap, subst, ◌∙◌, arith}
+use Rattle.std.proofs.Common.{◌≡◌, ℕ, ◌+◌, ◌*◌, ◌<◌, ◌≤◌, ◌^◌, inl, inr, Bool, true, false, cond, ◌||◌, eqb, ltb, List, [], ◌∷◌, ◌++◌, map, length, Option, Some, None, Result, Ok, Err, refl, sym, ap, subst, ◌∙◌, arith}
 use Rattle.std.specs.Prelude.{codes, decimal}
 use Rattle.std.specs.Str.{bytes_eq}
 use Rattle.std.proofs.lemmas.Bool.{ltb-true, ltb-false, lt-ltb, le-ltb, eqb-true, eqb-false}
@@ -23,13 +23,16 @@ use Rattle.table_check.specs.declared.boards.Choose.{Choose}
 use Rattle.table_check.specs.declared.boards.Choose.TheVariants.{First, Round, Seed}
 use Rattle.table_check.specs.declared.boards.Shape.{Shape}
 use Rattle.table_check.specs.declared.boards.Shape.TheVariants.{Plain, Cached}
-use Rattle.table_text.specs.Reading.{◌>>=◌}
+use Rattle.table_text.specs.declared.fault.TableKind.{TableKind}
+use Rattle.table_text.specs.Reading.{◌>>=◌, version_at}
+use Rattle.table_text.specs.Spelling.{version_words, IsVersion}
+use Rattle.table_text.proofs.TableLaws.{IsHead, version_takes}
 use Rattle.setup_text.specs.declared.fault.LimitOf.TheVariants.{Lines, Tables, Frames}
 use Rattle.setup_text.specs.declared.fault.SetupKind.{SetupKind}
 use Rattle.setup_text.specs.declared.fault.SetupKind.TheVariants.{UnknownWord, Number, Address, TwiceName, TwiceNumber, NoFrames, Limit}
 use Rattle.setup_text.specs.Spelling.{shape_words, choose_words, access_row, ShapeFits, ChooseFits, AccessFits}
 use Rattle.setup_text.specs.Drafts.{named, found_name, IsShape}
-use Rattle.setup_text.specs.Reading.{counted, number_at, from_one, number_from_one, this_word, line_ends, name_at, in_lines, memory_line, in_memory, address_at, address_line, value_line, seeded, choose_at, framed, frames_at, shape_at, next_place, place_at, has_number, new_number, board_number_at, known_name, table_name_at, board_front, board_table, board_back, one_address, access_parts, access_of, access_line, new_name, head_name, head_line}
+use Rattle.setup_text.specs.Reading.{counted, number_at, from_one, number_from_one, this_word, line_ends, name_at, in_lines, memory_line, in_memory, address_at, address_line, value_line, seeded, choose_at, framed, frames_at, shape_at, next_place, place_at, has_number, new_number, board_number_at, known_name, table_name_at, board_front, board_table, board_back, one_address, access_parts, access_of, access_line, new_name, head_name, head_line, as_setup_kind}
 use Rattle.setup_text.proofs.Texts.{number_takes, number_within_again}
 
 -- ---- steps that were taken
@@ -260,6 +263,9 @@ access_read bound event ws access e =
     go events.Flush x h =
         let one = one_read bound ws x h in
         record { words = ap (λ (u : Words). codes "flush" ∷ u) one.0; within = one.1; fits = one.2 }
+    go events.Swap x h =
+        let one = value_line_read bound ws x h in
+        record { words = ap (λ (u : Words). codes "swap" ∷ u) one.0; within = one.1; fits = (one.2, one.3) }
 
 -- the word and the rest of an access's line
 pub record WritesAccess (bound : ℕ) (access : Access) : Type 0 where
@@ -298,6 +304,13 @@ access_reads bound (accesses.Flush a) fits within =
       rest = decimal a ∷ [];
       words = refl;
       reads = rw (address_line_reads bound a within fits) refl;
+    }
+access_reads bound (accesses.Swap a v) fits within =
+    record {
+      event = events.Swap;
+      rest = decimal a ∷ decimal v ∷ [];
+      words = refl;
+      reads = rw (value_line_reads bound a v within fits.0 fits.1) refl;
     }
 
 -- ---- the parts of a board line
@@ -529,48 +542,60 @@ back_reads c fits =
     ap choose_at (sym (append-nil (choose_words c))) ∙ choose_reads c [] fits in
     rw one refl
 
--- ---- the name of a head line
+-- ---- the name and the version of a head line
 
-pub record ReadsName (tables : List Table) (ws : Words) (name : List ℕ) : Type 0 where
-  pub words : ws ≡ name ∷ []
+kind_passes : {X : Type 0} (x : Result X TableKind) (v : X) → as_setup_kind x ≡ Ok v → x ≡ Ok v
+kind_passes (Ok y) v e = ap (λ (z : _). Ok z) (ok_same y v e)
+kind_passes (Err k) v e = absurd cc
+
+pub record ReadsHead (tables : List Table) (ws : Words) (t : List ℕ × ℕ) : Type 0 where
+  pub words : ws ≡ t.0 ∷ version_words t.1
   pub few : length tables < 16
-  pub named_ : is_name name ≡ true
-  pub new : found_name (map named tables) name ≡ None
+  pub named_ : is_name t.0 ≡ true
+  pub new : found_name (map named tables) t.0 ≡ None
+  pub known : IsVersion t.1
 
 pub head_read :
-    (tables : List Table) (ws : Words) (name : List ℕ) → head_line tables ws ≡ Ok name → ReadsName tables ws name
+    (tables : List Table) (ws : Words) (t : List ℕ × ℕ) → head_line tables ws ≡ Ok t → ReadsHead tables ws t
 unfolding head_name
-head_read tables ws name e =
+head_read tables ws t e =
     let a = binds (cond (ltb (length tables) 16) (name_at ws >>= new_name tables) (Err (Limit Tables 17)))
-    (λ n. line_ends n.1 >>= λ _. Ok n.0) name e in
-    let b = binds (line_ends a.value.1) (λ _. Ok a.value.0) name a.then in
-    subst (ReadsName tables ws) (ok_same a.value.0 name b.then)
-    (room (ltb (length tables) 16) refl a.value a.here (nothing_read a.value.1 b.value b.here))
+    (λ n. as_setup_kind (version_at n.1) >>= λ version. Ok (n.0, version)) t e in
+    let b = binds (as_setup_kind (version_at a.value.1)) (λ version. Ok (a.value.0, version)) t a.then in
+    let head = version_takes a.value.1 b.value (kind_passes (version_at a.value.1) b.value b.here) in
+    subst (ReadsHead tables ws) (ok_same (a.value.0, b.value) t b.then)
+    (room (ltb (length tables) 16) refl a.value b.value a.here head)
   where
     fresh :
-        (n x : List ℕ × Words) → ws ≡ n.0 ∷ n.1 → length tables < 16 → is_name n.0 ≡ true → x.1 ≡ []
+        (n x : List ℕ × Words) (v : ℕ) → ws ≡ n.0 ∷ n.1 → length tables < 16 → is_name n.0 ≡ true → IsHead x.1 v
         → (o : Option (ℕ × Bool)) → found_name (map named tables) n.0 ≡ o → new_name tables n ≡ Ok x
-        → ReadsName tables ws x.0
-    fresh n x words few is none None h e =
+        → ReadsHead tables ws (x.0, v)
+    fresh n x v words few is head None h e =
         let same : n ≡ x = (let both : ◌≡◌ {A = Result (List ℕ × Words) SetupKind} (Ok n) (Ok x) = rw h at e in cc) in
-        let P : List ℕ × Words → Type 0 = λ x. x.1 ≡ [] → ReadsName tables ws x.0 in
-        subst P same (λ k. record { words = words ∙ ap (λ (u : Words). n.0 ∷ u) k; few = few; named_ = is; new = h })
-        none
-    fresh n x words few is none (Some p) h e =
+        let P : List ℕ × Words → Type 0 = λ x. IsHead x.1 v → ReadsHead tables ws (x.0, v) in
+        subst P same
+        (λ k.
+        record { words = words ∙ ap (λ (u : Words). n.0 ∷ u) k.0; few = few; named_ = is; new = h; known = k.1 }) head
+    fresh n x v words few is head (Some p) h e =
         (let both : ◌≡◌ {A = Result (List ℕ × Words) SetupKind} (Err TwiceName) (Ok x) = rw h at e in absurd cc)
 
     room :
-        (b : Bool) → ltb (length tables) 16 ≡ b → (x : List ℕ × Words)
-        → cond b (name_at ws >>= new_name tables) (Err (Limit Tables 17)) ≡ Ok x → x.1 ≡ [] → ReadsName tables ws x.0
-    room false h x e none = absurd cc
-    room true h x e none =
+        (b : Bool) → ltb (length tables) 16 ≡ b → (x : List ℕ × Words) (v : ℕ)
+        → cond b (name_at ws >>= new_name tables) (Err (Limit Tables 17)) ≡ Ok x → IsHead x.1 v
+        → ReadsHead tables ws (x.0, v)
+    room false h x v e head = absurd cc
+    room true h x v e head =
         let a = binds (name_at ws) (new_name tables) x e in
         let n = name_read ws a.value a.here in
-        fresh a.value x n.0 (ltb-true (length tables) 16 h) n.1 none (found_name (map named tables) a.value.0) refl
+        fresh a.value x v n.0 (ltb-true (length tables) 16 h) n.1 head (found_name (map named tables) a.value.0) refl
         a.then
 
 pub head_reads :
-    (tables : List Table) (name : List ℕ) → length tables < 16 → is_name name ≡ true
-    → found_name (map named tables) name ≡ None → head_line tables (name ∷ []) ≡ Ok name
+    (tables : List Table) (name : List ℕ) (version : ℕ) → length tables < 16 → is_name name ≡ true
+    → found_name (map named tables) name ≡ None → IsVersion version
+    → head_line tables (name ∷ version_words version) ≡ Ok (name, version)
 unfolding head_name
-head_reads tables name few is new = rw (lt-ltb (length tables) 16 few, name_reads name [] is, new) refl
+head_reads tables name version few is new (inl one) =
+    rw (one, lt-ltb (length tables) 16 few, name_reads name [] is, new) refl
+head_reads tables name version few is new (inr two) =
+    rw (two, lt-ltb (length tables) 16 few, name_reads name (codes "version" ∷ codes "2" ∷ []) is, new) refl

@@ -1,5 +1,5 @@
 -- A line that is spelled is read as what it spells.
-use Rattle.std.proofs.Common.{◌≡◌, ℕ, ◌+◌, ◌*◌, ◌<◌, ◌≤◌, ◌^◌, Bool, true, false, ltb, List, [], ◌∷◌, ◌++◌, length, map, Some, None, Ok, refl, arith}
+use Rattle.std.proofs.Common.{◌≡◌, ℕ, ◌+◌, ◌*◌, ◌<◌, ◌≤◌, ◌^◌, inl, inr, Bool, true, false, ltb, List, [], ◌∷◌, ◌++◌, length, map, Some, None, Ok, refl, arith}
 use Rattle.std.specs.Prelude.{codes, decimal}
 use Rattle.std.specs.Str.{bytes_eq}
 use Rattle.std.proofs.lemmas.Bool.{le-leb, lt-ltb, ne_eqb, eq-eqb, ltb-true}
@@ -8,7 +8,7 @@ use Rattle.fb_text.specs.Lines.{is_empty}
 use Rattle.fb_text.specs.Places.{Words}
 use Rattle.fb_text.proofs.Decimal.{number_again}
 use Rattle.bus_signals.specs.declared.Access.{Access}
-use Rattle.bus_signals.specs.declared.Access.TheVariants.{Read, Write, Pass, Flush}
+use Rattle.bus_signals.specs.declared.Access.TheVariants.{Read, Write, Pass, Flush, Swap}
 use Rattle.bus_signals.specs.declared.LocalEvent.TheVariants as events
 use Rattle.bus_signals.specs.Accesses.{kind_of, address_of}
 use Rattle.class_words.specs.Words.{local_event_word}
@@ -21,6 +21,7 @@ use Rattle.table_check.specs.declared.boards.Shape.TheVariants.{Plain, Cached}
 use Rattle.table_check.specs.declared.boards.Choose.{Choose}
 use Rattle.table_check.specs.declared.boards.Choose.TheVariants.{First, Round, Seed}
 use Rattle.setup.specs.Setup.{Setup, access_count}
+use Rattle.table_text.specs.Spelling.{IsVersion}
 use Rattle.setup_text.specs.Spelling.{BoardText, memory_row, arbiter_row, word_row, head_row, shape_words, choose_words, board_row, access_row, end_row, AccessFits, WordFits, ChooseFits, BoardFits}
 use Rattle.setup_text.specs.Values.{place_of, board_of}
 use Rattle.setup_text.specs.Drafts.{empty_setup, with_fair, with_word, with_board, with_access, named, found_name}
@@ -98,6 +99,8 @@ access_parts_read bound (Pass addr) ws e within fits =
     let h : decimal addr ∷ [] ≡ ws = cc in rw (← h, address_line_read bound addr within fits) refl
 access_parts_read bound (Flush addr) ws e within fits =
     let h : decimal addr ∷ [] ≡ ws = cc in rw (← h, address_line_read bound addr within fits) refl
+access_parts_read bound (Swap addr v) ws e within fits =
+    let h : decimal addr ∷ decimal v ∷ [] ≡ ws = cc in rw (← h, value_line_read bound addr v within fits.0 fits.1) refl
 
 some_boards : {X : Type 0} (bs : List X) → 1 ≤ length bs → is_empty bs ≡ false
 some_boards [] some = absurd (omega arith)
@@ -135,6 +138,13 @@ access_read s (Flush addr) some few within fits =
       lt-ltb (access_count s) 100000 few,
       access_parts_read (length s.memory) (Flush addr) (decimal addr ∷ []) refl within fits,
     ) refl
+access_read s (Swap addr v) some few within fits =
+    rw (
+      local_event_again events.Swap,
+      some_boards s.boards some,
+      lt-ltb (access_count s) 100000 few,
+      access_parts_read (length s.memory) (Swap addr v) (decimal addr ∷ decimal v ∷ []) refl within fits,
+    ) refl
 
 pub end_read : (s : Setup) → 1 ≤ length s.boards → line_at (body s) end_row ≡ Ok (ended s)
 unfolding body_line
@@ -143,11 +153,14 @@ end_read s some = rw (some_boards s.boards some) refl
 -- ---- head lines
 
 pub head_read :
-    (s : Setup) (name : List ℕ) → s.boards ≡ [] → length s.tables < 16 → is_name name ≡ true
-    → found_name (map named s.tables) name ≡ None
-    → line_at (body s) (head_row name) ≡ Ok (in_table s (empty_table name))
+    (s : Setup) (name : List ℕ) (version : ℕ) → s.boards ≡ [] → length s.tables < 16 → is_name name ≡ true
+    → found_name (map named s.tables) name ≡ None → IsVersion version
+    → line_at (body s) (head_row name version) ≡ Ok (in_table s (empty_table name version))
 unfolding body_line head_name
-head_read s name no_boards few named_so new = rw (no_boards, lt-ltb (length s.tables) 16 few, named_so, new) refl
+head_read s name version no_boards few named_so new (inl one) =
+    rw (one, no_boards, lt-ltb (length s.tables) 16 few, named_so, new) refl
+head_read s name version no_boards few named_so new (inr two) =
+    rw (two, no_boards, lt-ltb (length s.tables) 16 few, named_so, new) refl
 
 -- ---- board lines
 

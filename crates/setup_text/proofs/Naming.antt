@@ -7,7 +7,7 @@ use Rattle.std.specs.Str.{bytes_eq}
 use Rattle.std.proofs.lemmas.Bool.{ltb-false}
 use Rattle.std.proofs.lemmas.List.{length-map, map-append}
 use Rattle.std.proofs.lemmas.Slice.Eq.{bytes_eq-Decides}
-use Rattle.class_relation.specs.Tables.{Table, empty_table}
+use Rattle.class_relation.specs.Tables.{Table, no_table}
 use Rattle.indexmap.specs.IndexMap.{insert_entry}
 use Rattle.setup_text.specs.Drafts.{Named, named, further, found_name, stays_invalid, IsKnown}
 
@@ -136,7 +136,7 @@ found_known w (t ∷ ts) p e = go (found_known w ts) (bytes_eq w t.name) refl (f
         let flag : q.1 ≡ p.1 = ap (λ (x : ℕ × Bool). x.1) h in
         let least : q.0 < length ts = known.0 in (
           rw (← place) (omega arith),
-          sym flag ∙ (known.1 ∙ ap (λ (n : ℕ). stays_invalid (get_or (t ∷ ts) n (empty_table []))) place),
+          sym flag ∙ (known.1 ∙ ap (λ (n : ℕ). stays_invalid (get_or (t ∷ ts) n no_table)) place),
         )
 
     go :

@@ -8,7 +8,7 @@ use Rattle.setup.specs.Setup.{Setup}
 use Rattle.table_text.specs.declared.fault.TableKind.{TableKind}
 use Rattle.table_text.specs.Reading.{◌>>=◌, is_end, cell_line, table_line}
 use Rattle.table_text.specs.Reading as TableReading
-use Rattle.table_text.specs.Spelling.{CellLine, local, answer, cell_words, BreaksCell}
+use Rattle.table_text.specs.Spelling.{CellLine, local, answer, cell_words, version_words, BreaksCell}
 use Rattle.setup_text.specs.declared.fault.SetupKind.{SetupKind}
 use Rattle.setup_text.specs.declared.fault.SetupKind.TheVariants.{UnknownWord}
 use Rattle.setup_text.specs.Spelling.{TableText, SetupText, head_row, open_table_rows, tables_rows, open_rows}
@@ -35,26 +35,28 @@ cell_no_end (answer E e alts) = refl
 cell_no_end (answer S e alts) = refl
 cell_no_end (answer I e alts) = refl
 
-cell_no_head : (c : CellLine) (name : List ℕ) → cell_words c ≡ head_row name → ⊥
-cell_no_head (local M e alts) name h = cc
-cell_no_head (local O e alts) name h = cc
-cell_no_head (local E e alts) name h = cc
-cell_no_head (local S e alts) name h = cc
-cell_no_head (local I e alts) name h = cc
-cell_no_head (answer M e alts) name h = cc
-cell_no_head (answer O e alts) name h = cc
-cell_no_head (answer E e alts) name h = cc
-cell_no_head (answer S e alts) name h = cc
-cell_no_head (answer I e alts) name h = cc
+cell_no_head : (c : CellLine) (name : List ℕ) (version : ℕ) → cell_words c ≡ head_row name version → ⊥
+cell_no_head (local M e alts) name version h = cc
+cell_no_head (local O e alts) name version h = cc
+cell_no_head (local E e alts) name version h = cc
+cell_no_head (local S e alts) name version h = cc
+cell_no_head (local I e alts) name version h = cc
+cell_no_head (answer M e alts) name version h = cc
+cell_no_head (answer O e alts) name version h = cc
+cell_no_head (answer E e alts) name version h = cc
+cell_no_head (answer S e alts) name version h = cc
+cell_no_head (answer I e alts) name version h = cc
 
 no_head :
-    (cells : List CellLine) (front : List Words) (name : List ℕ) (back : List Words)
-    → map cell_words cells ≡ front ++ head_row name ∷ back → ⊥
-no_head [] [] name back e = cc
-no_head [] (x ∷ front) name back e = cc
-no_head (c ∷ cells) [] name back e = let same : cell_words c ≡ head_row name = cc in cell_no_head c name same
-no_head (c ∷ cells) (x ∷ front) name back e =
-    let rest : map cell_words cells ≡ front ++ head_row name ∷ back = cc in no_head cells front name back rest
+    (cells : List CellLine) (front : List Words) (name : List ℕ) (version : ℕ) (back : List Words)
+    → map cell_words cells ≡ front ++ head_row name version ∷ back → ⊥
+no_head [] [] name version back e = cc
+no_head [] (x ∷ front) name version back e = cc
+no_head (c ∷ cells) [] name version back e =
+    let same : cell_words c ≡ head_row name version = cc in cell_no_head c name version same
+no_head (c ∷ cells) (x ∷ front) name version back e =
+    let rest : map cell_words cells ≡ front ++ head_row name version ∷ back = cc in
+    no_head cells front name version back rest
 
 -- the last head line parts the lines of an open table from those before it
 pub same_cells :
@@ -62,11 +64,11 @@ pub same_cells :
     → map cell_words t.cells ≡ map cell_words u.cells
 same_cells [] [] t u e = cc
 same_cells [] (x ∷ b) t u e =
-    let rest : map cell_words t.cells ≡ b ++ head_row u.name ∷ map cell_words u.cells = cc in
-    absurd (no_head t.cells b u.name (map cell_words u.cells) rest)
+    let rest : map cell_words t.cells ≡ b ++ head_row u.name u.version ∷ map cell_words u.cells = cc in
+    absurd (no_head t.cells b u.name u.version (map cell_words u.cells) rest)
 same_cells (x ∷ a) [] t u e =
-    let rest : a ++ head_row t.name ∷ map cell_words t.cells ≡ map cell_words u.cells = cc in
-    absurd (no_head u.cells a t.name (map cell_words t.cells) (sym rest))
+    let rest : a ++ head_row t.name t.version ∷ map cell_words t.cells ≡ map cell_words u.cells = cc in
+    absurd (no_head u.cells a t.name t.version (map cell_words t.cells) (sym rest))
 same_cells (x ∷ a) (y ∷ b) t u e =
     let rest : a ++ open_table_rows t ≡ b ++ open_table_rows u = cc in same_cells a b t u rest
 
@@ -107,19 +109,21 @@ unfolding body_line
 open_mode setup t m e = go (is_empty setup.boards) e
   where
     name :
-        (x : Result (List ℕ) SetupKind)
-        → ((x >>= λ name. Ok (in_table setup (empty_table name))) >>= λ k. rows_at k (map cell_words t.cells)) ≡ Ok m
+        (x : Result (List ℕ × ℕ) SetupKind)
+        → ((x >>= λ x. Ok (in_table setup (empty_table x.0 x.1))) >>= λ k. rows_at k (map cell_words t.cells)) ≡ Ok m
         → (v : Setup) × (u : Table) × (m ≡ in_table v u)
     name (Err k) e = absurd cc
-    name (Ok n) e = let found = cells_mode setup (empty_table n) t.cells m e in (setup, found.0, found.1)
+    name (Ok n) e = let found = cells_mode setup (empty_table n.0 n.1) t.cells m e in (setup, found.0, found.1)
 
     go :
         (b : Bool)
-        → (cond b (head_line setup.tables (t.name ∷ []) >>= λ name. Ok (in_table setup (empty_table name)))
+        → (cond b
+        (head_line setup.tables (t.name ∷ version_words t.version) >>=
+        λ x. Ok (in_table setup (empty_table x.0 x.1)))
         (Err UnknownWord) >>= λ k. rows_at k (map cell_words t.cells)) ≡ Ok m
         → (v : Setup) × (u : Table) × (m ≡ in_table v u)
     go false e = absurd cc
-    go true e = name (head_line setup.tables (t.name ∷ [])) e
+    go true e = name (head_line setup.tables (t.name ∷ version_words t.version)) e
 
 -- reading stands in no table after the lines of a setup
 no_table : (s : SetupText) (v : Setup) (u : Table) → mode_so_far s ≡ in_table v u → ⊥
@@ -211,14 +215,14 @@ book_cells_mode tables t (c ∷ cells) m e =
 book_open_mode :
     (tables : List Table) (t : TableText) (m : BookMode) → books.rows_at (whole tables) (open_table_rows t) ≡ Ok m
     → (v : List Table) × (u : Table) × (m ≡ within v u)
-book_open_mode tables t m e = name (head_line tables (t.name ∷ [])) e
+book_open_mode tables t m e = name (head_line tables (t.name ∷ version_words t.version)) e
   where
     name :
-        (x : Result (List ℕ) SetupKind)
-        → ((x >>= λ name. Ok (within tables (empty_table name))) >>= λ k. books.rows_at k (map cell_words t.cells))
+        (x : Result (List ℕ × ℕ) SetupKind)
+        → ((x >>= λ x. Ok (within tables (empty_table x.0 x.1))) >>= λ k. books.rows_at k (map cell_words t.cells))
         ≡ Ok m → (v : List Table) × (u : Table) × (m ≡ within v u)
     name (Err k) e = absurd cc
-    name (Ok n) e = let found = book_cells_mode tables (empty_table n) t.cells m e in (tables, found.0, found.1)
+    name (Ok n) e = let found = book_cells_mode tables (empty_table n.0 n.1) t.cells m e in (tables, found.0, found.1)
 
 book_not_open :
     (s r : List TableText) (t : TableText) → TablesStand s → TablesStand r

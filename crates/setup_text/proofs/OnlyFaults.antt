@@ -6,7 +6,7 @@ use Rattle.fb_text.specs.Places.{Words, lines_places, items, text_places, FirstF
 use Rattle.fb_text.specs.Unread.{Line, unread}
 use Rattle.fb_text.proofs.LineLaws.{first_fault}
 use Rattle.bus_signals.specs.declared.LocalEvent.{LocalEvent}
-use Rattle.bus_signals.specs.declared.LocalEvent.TheVariants.{Read, Write, Pass, Flush}
+use Rattle.bus_signals.specs.declared.LocalEvent.TheVariants.{Read, Write, Pass, Flush, Swap}
 use Rattle.class_words.specs.Words.{local_event_word}
 use Rattle.class_relation.specs.Tables.{Table}
 use Rattle.setup.specs.Setup.{Setup}
@@ -18,7 +18,7 @@ use Rattle.setup_text.specs.declared.fault.SetupKind.{SetupKind}
 use Rattle.setup_text.specs.declared.fault.SetupKind.TheVariants.{UnknownWord, Limit}
 use Rattle.setup_text.specs.declared.fault.SetupFault.TheVariants as faults
 use Rattle.setup_text.specs.Values.{tables_of, setup_of}
-use Rattle.setup_text.specs.Grammars.{Slot, first, lines, address, value, name, place, number, table, shape, sets, ways, seed, other, slot_of, JudgedLines, JudgedFirst, JudgedAs, JudgedHead, BreaksSetup, BreaksBook, kind_of, setup_grammar, book_grammar, schedule_grammar}
+use Rattle.setup_text.specs.Grammars.{Slot, first, lines, address, value, name, version, place, number, table, shape, sets, ways, seed, other, slot_of, JudgedLines, JudgedFirst, JudgedAs, JudgedHead, BreaksSetup, BreaksBook, kind_of, setup_grammar, book_grammar, schedule_grammar}
 use Rattle.setup_text.specs.Reading.{Mode, BookMode, Fault, on_line, line_at, lines_at, text_ends, setup_at, book_line, book_lines, book_ends, book_at, schedule_at}
 use Rattle.setup_text.specs.FirstFaults.{SetupFaultsAreFirst, BookFaultsAreFirst, ScheduleFaultsAreFirst}
 use Rattle.setup_text.proofs.LineFaults.{decimal_same}
@@ -69,6 +69,7 @@ judged_first setup w k (inr (inr (inr (h, full, kind)))) = kind ∙ (access h.0 
     access Write = refl
     access Pass = refl
     access Flush = refl
+    access Swap = refl
 
 one_judged :
     (slot : Slot) (setup : Setup) (words : Words) (w : List ℕ) (k j : SetupKind) → JudgedAs slot setup words w k
@@ -78,6 +79,7 @@ one_judged lines setup words w k j h i = absurd h
 one_judged address setup words w k j (a, low, is, past, kind) (b, small, also, beyond, called) = kind ∙ sym called
 one_judged value setup words w k j h i = absurd h
 one_judged name setup words w k j h i = h.1 ∙ sym i.1
+one_judged version setup words w k j h i = absurd h
 one_judged place setup words w k j h i = h.1 ∙ sym i.1
 one_judged number setup words w k j (n, low, is, has, kind) (m, small, also, holds, called) = kind ∙ sym called
 one_judged table setup words w k j h i = h.1 ∙ sym i.1
@@ -98,6 +100,7 @@ one_head :
     → JudgedHead slot tables w j → k ≡ j
 one_head first tables w k j h i = h.2 ∙ sym i.2
 one_head name tables w k j h i = h.1 ∙ sym i.1
+one_head version tables w k j h i = absurd h
 one_head lines tables w k j h i = absurd h
 one_head address tables w k j h i = absurd h
 one_head value tables w k j h i = absurd h

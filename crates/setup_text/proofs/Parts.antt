@@ -11,9 +11,9 @@ use Rattle.class_relation.specs.Tables.{Table, empty_table}
 use Rattle.table_check.specs.declared.boards.BoardSpec.{BoardSpec}
 use Rattle.setup.specs.Setup.{Setup, WellFormed, line_count, access_count}
 use Rattle.setup.specs.Setup as checked
-use Rattle.table_text.specs.Spelling.{CellLine, entered, all_entered, table_of}
+use Rattle.table_text.specs.Spelling.{CellLine, entered, all_entered}
 use Rattle.setup_text.specs.Spelling.{TableText, BoardText, SetupText, memory_row, arbiter_rows, word_row, board_row, access_row, table_rows, board_rows, tables_rows, open_rows, AccessFits, WordFits, TableFits, BoardFits}
-use Rattle.setup_text.specs.Values.{words_set, memory_of, tables_of, board_of, setup_of}
+use Rattle.setup_text.specs.Values.{spelled_table, words_set, memory_of, tables_of, board_of, setup_of}
 use Rattle.setup_text.specs.Standing.{CellsStand, InPlaces, StandsSoFar, SetupStands}
 use Rattle.setup_text.specs.Drafts.{named, found_name, with_board, with_access, IsDraft, AreTables}
 use Rattle.setup_text.specs.Reading.{has_number}
@@ -30,8 +30,8 @@ opener_rows n = memory_row n.0 ∷ arbiter_rows n.1
 abbrev pub text : Opener → List (ℕ × ℕ) → List TableText → List BoardText → SetupText
 text n ws ts bs = record { lines = n.0; fair = n.1; words = ws; tables = ts; boards = bs }
 
-abbrev pub table_text : List ℕ → List CellLine → TableText
-table_text name cells = record { name = name; cells = cells }
+abbrev pub table_text : List ℕ → ℕ → List CellLine → TableText
+table_text name version cells = record { name = name; version = version; cells = cells }
 
 -- A setup with its `memory` line alone.
 abbrev pub is_bare : SetupText → Bool
@@ -217,25 +217,33 @@ pub record TableStands (tables : List Table) (t : TableText) : Type 0 where
   pub few : length tables < 16
   pub new : found_name (map named tables) t.name ≡ None
 
-pub table_name : (name : List ℕ) (cells : List CellLine) → (table_of name cells).name ≡ name
-table_name name cells = entered_all (empty_table name) cells
+pub table_name : (t : TableText) → (spelled_table t).name ≡ t.name
+table_name t = entered_all (empty_table t.name t.version) t.cells
   where
     entered_all : (t : Table) (cells : List CellLine) → (all_entered t cells).name ≡ t.name
     entered_all t [] = refl
     entered_all t (CellLine.local s e alts ∷ cells) = entered_all (entered t (CellLine.local s e alts)) cells
     entered_all t (CellLine.answer s e alts ∷ cells) = entered_all (entered t (CellLine.answer s e alts)) cells
 
+pub table_version : (t : TableText) → (spelled_table t).version ≡ t.version
+table_version t = entered_all (empty_table t.name t.version) t.cells
+  where
+    entered_all : (t : Table) (cells : List CellLine) → (all_entered t cells).version ≡ t.version
+    entered_all t [] = refl
+    entered_all t (CellLine.local s e alts ∷ cells) = entered_all (entered t (CellLine.local s e alts)) cells
+    entered_all t (CellLine.answer s e alts ∷ cells) = entered_all (entered t (CellLine.answer s e alts)) cells
+
 pub tables_append :
-    (ts : List TableText) (t : TableText) → tables_of (ts ++ t ∷ []) ≡ tables_of ts ++ table_of t.name t.cells ∷ []
-tables_append ts t = map-append (λ (t : TableText). table_of t.name t.cells) ts (t ∷ [])
+    (ts : List TableText) (t : TableText) → tables_of (ts ++ t ∷ []) ≡ tables_of ts ++ spelled_table t ∷ []
+tables_append ts t = map-append spelled_table ts (t ∷ [])
 
 pub tables_grow :
     (ts : List TableText) (t : TableText) → AreTables (tables_of ts) → TableStands (tables_of ts) t
     → AreTables (tables_of (ts ++ t ∷ []))
 tables_grow ts t are h =
     subst AreTables (sym (tables_append ts t))
-    (tables_push (tables_of ts) (table_of t.name t.cells) are h.few
-    (ap (found_name (map named (tables_of ts))) (table_name t.name t.cells) ∙ h.new))
+    (tables_push (tables_of ts) (spelled_table t) are h.few
+    (ap (found_name (map named (tables_of ts))) (table_name t) ∙ h.new))
 
 pub stands_table :
     (n : Opener) (ws : List (ℕ × ℕ)) (ts : List TableText) (t : TableText) → StandsSoFar (text n ws ts [])

@@ -13,7 +13,7 @@ use Rattle.bus_signals.specs.declared.Access.{Access}
 use Rattle.bus_signals.specs.Accesses.{address_of}
 use Rattle.moesi_state.specs.declared.State.{State}
 use Rattle.moesi_state.specs.declared.State.TheVariants.{M, O, E, S, I}
-use Rattle.class_relation.specs.Tables.{Table, empty_table}
+use Rattle.class_relation.specs.Tables.{Table, empty_table, no_table}
 use Rattle.table_check.specs.declared.boards.BoardSpec.{BoardSpec}
 use Rattle.table_check.specs.declared.boards.Shape.{Shape}
 use Rattle.table_check.specs.declared.boards.Shape.TheVariants.{Plain, Cached}
@@ -22,13 +22,13 @@ use Rattle.setup.specs.Setup.{Setup, WellFormed, access_count}
 use Rattle.setup.specs.Setup as checked
 use Rattle.table_check.proofs.Reaching.{test-reached}
 use Rattle.table_text.specs.Reading.{◌>>=◌}
-use Rattle.table_text.specs.Spelling.{CellLine, cell_words, entered, all_entered, table_of}
+use Rattle.table_text.specs.Spelling.{CellLine, cell_words, entered, all_entered}
 use Rattle.table_text.specs.Correct.{AllStand}
 use Rattle.table_text.proofs.TableLaws.{HasAllCells, empty_whole, entered_whole}
 use Rattle.table_text.proofs.Again.{line_again, end_again}
 use Rattle.setup_text.specs.declared.fault.SetupKind.{SetupKind}
 use Rattle.setup_text.specs.Spelling.{TableText, BoardText, SetupText, end_row, memory_row, arbiter_row, arbiter_rows, word_row, head_row, board_row, access_row, table_rows, tables_rows, board_rows, setup_rows, WordFits, AccessFits, TableFits, BoardFits}
-use Rattle.setup_text.specs.Values.{words_set, tables_of, place_of, board_of, setup_of}
+use Rattle.setup_text.specs.Values.{spelled_table, words_set, tables_of, place_of, board_of, setup_of}
 use Rattle.setup_text.specs.Correct.{CellsStand, InPlaces, SetupStands}
 use Rattle.setup_text.specs.Drafts.{empty_setup, with_fair, with_word, with_table, with_board, with_access, access_added, named, found_name, stays_invalid}
 use Rattle.setup_text.specs.Reading.{Mode, start, headed, body, in_table, ended, line_at, has_number}
@@ -118,11 +118,11 @@ new_name ts rest t differ i d lt same =
 one_table :
     (s : Setup) (t : TableText) → s.boards ≡ [] → length s.tables < 16 → TableFits t → CellsStand t
     → found_name (map named s.tables) t.name ≡ None
-    → read_rows line_at (body s) (table_rows t) ≡ Ok (body (with_table s (table_of t.name t.cells)))
+    → read_rows line_at (body s) (table_rows t) ≡ Ok (body (with_table s (spelled_table t)))
 one_table s t no_boards few fits stand new =
-    row_then line_at (body s) (in_table s (empty_table t.name)) (head_row t.name)
-    (map cell_words t.cells ++ end_row ∷ []) (head_read s t.name no_boards few fits.name new)
-    ∙ cells_read s (empty_table t.name) t.cells (empty_whole t.name) stand
+    row_then line_at (body s) (in_table s (empty_table t.name t.version)) (head_row t.name t.version)
+    (map cell_words t.cells ++ end_row ∷ []) (head_read s t.name t.version no_boards few fits.name new fits.version)
+    ∙ cells_read s (empty_table t.name t.version) t.cells (empty_whole t.name t.version) stand
 
 tables_read :
     (s : Setup) (ts : List TableText) → s.boards ≡ [] → length s.tables + length ts ≤ 16 → AllByRecursion TableFits ts
@@ -131,10 +131,10 @@ tables_read :
 tables_read s [] no_boards few fits stand differ =
     ap (λ (v : List Table). Ok (body (record s { tables = v }))) (sym (append-nil s.tables))
 tables_read s (t ∷ ts) no_boards few fits stand differ =
-    let first : Table = table_of t.name t.cells in
+    let first : Table = spelled_table t in
     let grown : (s.tables ++ first ∷ []) ++ tables_of ts ≡ s.tables ++ first ∷ tables_of ts =
     append_assoc s.tables (first ∷ []) (tables_of ts) in
-    let name : first.name ≡ t.name = entered_name (empty_table t.name) t.cells in
+    let name : first.name ≡ t.name = entered_name (empty_table t.name t.version) t.cells in
     let new = not_found s.tables t.name
     (λ i d lt same. new_name s.tables (tables_of ts) first differ i d lt (same ∙ sym name)) in
     rows_then line_at (body s) (body (with_table s first)) (table_rows t) (tables_rows ts)
@@ -212,7 +212,7 @@ stays t only = go (is_reached t M) (is_reached t O) (is_reached t E) (is_reached
 found_there :
     (ts : List Table) (name : List ℕ) → place_of ts name < length ts
     → found_name (map named ts) name
-    ≡ Some (place_of ts name, stays_invalid (get_or ts (place_of ts name) (empty_table [])))
+    ≡ Some (place_of ts name, stays_invalid (get_or ts (place_of ts name) no_table))
 found_there [] name lt = absurd (omega arith)
 found_there (t ∷ ts) name lt = go (bytes_eq name t.name) refl (found_there ts name) lt
   where
@@ -220,15 +220,15 @@ found_there (t ∷ ts) name lt = go (bytes_eq name t.name) refl (found_there ts 
         (b : Bool) → bytes_eq name t.name ≡ b
         → (place_of ts name < length ts
         → found_name (map named ts) name
-        ≡ Some (place_of ts name, stays_invalid (get_or ts (place_of ts name) (empty_table []))))
+        ≡ Some (place_of ts name, stays_invalid (get_or ts (place_of ts name) no_table)))
         → cond b 0 (place_of ts name + 1) < length (t ∷ ts)
         → found_name (map named (t ∷ ts)) name
         ≡ Some
-        (place_of (t ∷ ts) name, stays_invalid (get_or (t ∷ ts) (place_of (t ∷ ts) name) (empty_table [])))
+        (place_of (t ∷ ts) name, stays_invalid (get_or (t ∷ ts) (place_of (t ∷ ts) name) no_table))
     go true h rest lt = rw h refl
     go false h rest lt =
         let n : place_of ts name + 1 ≡ suc (place_of ts name) = omega arith in
-        let at = ap (λ (k : ℕ). get_or (t ∷ ts) k (empty_table [])) n in
+        let at = ap (λ (k : ℕ). get_or (t ∷ ts) k no_table) n in
         rw (h, rest (omega arith)) (ap (λ (u : Table). Some (place_of ts name + 1, stays_invalid u)) (sym at))
 
 plainly : (t : Table) (shape : Shape) → checked.ShapeFits t shape → shape ≡ Plain → stays_invalid t ≡ true
@@ -275,11 +275,11 @@ one_board :
     → read_rows line_at (body s) (board_rows b)
     ≡ Ok (body (record s { boards = s.boards ++ board_of s.tables b ∷ []; scripts = s.scripts ++ b.script ∷ [] }))
 one_board s w b same fits few next new there count within =
-    let t : Table = get_or s.tables (place_of s.tables b.table) (empty_table []) in
+    let t : Table = get_or s.tables (place_of s.tables b.table) no_table in
     let lt : place_of s.tables b.table < length s.tables =
     omega (arith, there.table, ap (λ (v : List Table). length v) same) in
     let shape : checked.ShapeFits t b.shape =
-    subst (λ (v : List Table). checked.ShapeFits (get_or v (place_of s.tables b.table) (empty_table [])) b.shape)
+    subst (λ (v : List Table). checked.ShapeFits (get_or v (place_of s.tables b.table) no_table) b.shape)
     same there.shape in
     let line = board_read s b (stays_invalid t) fits few next new (found_there s.tables b.table lt)
     (plainly t b.shape shape) (framed t b.shape shape) in
@@ -385,7 +385,7 @@ setup_read t h =
     let few_boards = h.sound.boards_high in
     let some_boards = h.sound.boards_low in
     let few_accesses = h.sound.accesses in
-    let of_tables = length-map t.tables (λ (x : TableText). table_of x.name x.cells) in
+    let of_tables = length-map t.tables (λ (x : TableText). spelled_table x) in
     let of_boards = length-map t.boards (board_of (tables_of t.tables)) in
     let first = row_then line_at start (headed (empty_setup n)) (memory_row n)
     ((arbiter_rows t.fair ++ (w ++ (ts ++ bs))) ++ end_row ∷ []) (lines_read n (omega arith) (omega arith)) in

@@ -17,7 +17,7 @@ use Rattle.bus_signals.specs.declared.Access.TheVariants as accesses
 use Rattle.bus_signals.specs.declared.LocalEvent.{LocalEvent}
 use Rattle.bus_signals.specs.declared.LocalEvent.TheVariants as events
 use Rattle.class_words.specs.Words.{local_event_word, local_event_of}
-use Rattle.class_relation.specs.Tables.{Table, empty_table}
+use Rattle.class_relation.specs.Tables.{Table, empty_table, no_table}
 use Rattle.table_check.specs.declared.boards.BoardSpec.{BoardSpec}
 use Rattle.table_check.specs.declared.boards.Shape.{Shape}
 use Rattle.table_check.specs.declared.boards.Shape.TheVariants.{Plain, Cached}
@@ -26,13 +26,13 @@ use Rattle.setup.specs.Setup.{Setup, access_count}
 use Rattle.setup.specs.Setup as checked
 use Rattle.table_check.proofs.Reaching.{test-reached}
 use Rattle.table_text.specs.Reading.{◌>>=◌}
-use Rattle.table_text.specs.Spelling.{CellLine, cell_words, entered, all_entered, table_of}
+use Rattle.table_text.specs.Spelling.{CellLine, cell_words, entered, all_entered}
 use Rattle.table_text.specs.Correct.{AllStand}
 use Rattle.table_text.proofs.TableLaws.{HasAllCells, entered_whole, empty_whole}
 use Rattle.table_text.proofs.Again.{line_again, end_again}
 use Rattle.setup_text.specs.declared.fault.SetupKind.{SetupKind}
 use Rattle.setup_text.specs.Spelling.{TableText, BoardText, SetupText, end_row, memory_row, arbiter_row, word_row, head_row, board_row, access_row, shape_words, choose_words, open_table_rows, table_rows, board_rows, tables_rows, open_rows, setup_rows, WordFits, TableFits}
-use Rattle.setup_text.specs.Values.{memory_of, tables_of, place_of, board_of, setup_of}
+use Rattle.setup_text.specs.Values.{spelled_table, memory_of, tables_of, place_of, board_of, setup_of}
 use Rattle.setup_text.specs.Standing.{CellsStand, StandsSoFar}
 use Rattle.setup_text.specs.Drafts.{named, found_name, stays_invalid, with_table, with_board, AreTables, IsShape}
 use Rattle.setup_text.specs.Reading.{Mode, start, headed, body, in_table, ended, on_line, has_number, first_line, arbiter_line, second_line, body_line, line_at, lines_at, text_ends, board_line, access_read}
@@ -159,10 +159,11 @@ word_again n ws w fits low =
 
 head_again :
     (n : Opener) (ws : List (ℕ × ℕ)) (ts : List TableText) (t : TableText) → TableStands (tables_of ts) t
-    → line_at (body (setup_of (text n ws ts []))) (head_row t.name)
-    ≡ Ok (in_table (setup_of (text n ws ts [])) (empty_table t.name))
+    → line_at (body (setup_of (text n ws ts []))) (head_row t.name t.version)
+    ≡ Ok (in_table (setup_of (text n ws ts [])) (empty_table t.name t.version))
 unfolding body_line
-head_again n ws ts t h = rw (head_reads (tables_of ts) t.name h.few h.fits.name h.new) refl
+head_again n ws ts t h =
+    rw (head_reads (tables_of ts) t.name t.version h.few h.fits.name h.new h.fits.version) refl
 
 -- ---- a table
 
@@ -176,20 +177,21 @@ cells_again setup t (c ∷ cells) whole h =
 pub open_again :
     (n : Opener) (ws : List (ℕ × ℕ)) (ts : List TableText) (t : TableText) → TableStands (tables_of ts) t
     → rows_at (body (setup_of (text n ws ts []))) (open_table_rows t)
-    ≡ Ok (in_table (setup_of (text n ws ts [])) (table_of t.name t.cells))
+    ≡ Ok (in_table (setup_of (text n ws ts [])) (spelled_table t))
 open_again n ws ts t h =
     rw (head_again n ws ts t h)
-    (cells_again (setup_of (text n ws ts [])) (empty_table t.name) t.cells (empty_whole t.name) h.cells)
+    (cells_again (setup_of (text n ws ts [])) (empty_table t.name t.version) t.cells
+    (empty_whole t.name t.version) h.cells)
 
 table_again :
     (n : Opener) (ws : List (ℕ × ℕ)) (ts : List TableText) (t : TableText) → TableStands (tables_of ts) t
     → rows_at (body (setup_of (text n ws ts []))) (table_rows t) ≡ Ok (body (setup_of (text n ws (ts ++ t ∷ []) [])))
 table_again n ws ts t h =
-    let closes : line_at (in_table (setup_of (text n ws ts [])) (table_of t.name t.cells)) end_row
-    ≡ Ok (body (with_table (setup_of (text n ws ts [])) (table_of t.name t.cells))) =
-    rw (end_again (table_of t.name t.cells)) refl in
-    rows_push (body (setup_of (text n ws ts []))) (in_table (setup_of (text n ws ts [])) (table_of t.name t.cells))
-    (body (with_table (setup_of (text n ws ts [])) (table_of t.name t.cells))) (open_table_rows t) end_row
+    let closes : line_at (in_table (setup_of (text n ws ts [])) (spelled_table t)) end_row
+    ≡ Ok (body (with_table (setup_of (text n ws ts [])) (spelled_table t))) =
+    rw (end_again (spelled_table t)) refl in
+    rows_push (body (setup_of (text n ws ts []))) (in_table (setup_of (text n ws ts [])) (spelled_table t))
+    (body (with_table (setup_of (text n ws ts [])) (spelled_table t))) (open_table_rows t) end_row
     (open_again n ws ts t h) closes
     ∙ ap
     (λ (x : List Table).
@@ -252,7 +254,7 @@ board_again n ws ts bs b none s =
     let shape : IsShape known.0 b.shape =
     (let P : Bool → Type 0 = λ x. IsShape x b.shape in
     subst P (sym flag.1)
-    (shape_is (get_or (tables_of ts) (place_of (tables_of ts) b.table) (empty_table [])) b.shape board.shape)) in
+    (shape_is (get_or (tables_of ts) (place_of (tables_of ts) b.table) no_table) b.shape board.shape)) in
     let new : has_number boards b.number ≡ false =
     new_number_is boards b.number
     (λ k d low. pairs_last (λ (a c : BoardSpec). a.number ≢ c.number) boards (spec_of ts b) d draft.numbers k low)
@@ -284,6 +286,7 @@ event_line events.Read setup rest = refl
 event_line events.Write setup rest = refl
 event_line events.Pass setup rest = refl
 event_line events.Flush setup rest = refl
+event_line events.Swap setup rest = refl
 
 some_boards :
     (ts : List TableText) (bs : List BoardText) (b : BoardText)
@@ -333,10 +336,10 @@ name_new w (t ∷ ts) h = go (bytes_eq w t.name) refl (name_new w ts (λ k d low
 
 -- one of the tables that stand, after those before it
 pub one_stands :
-    (ts more : List Table) (t : TableText) → AreTables (ts ++ table_of t.name t.cells ∷ more) → TableFits t
+    (ts more : List Table) (t : TableText) → AreTables (ts ++ spelled_table t ∷ more) → TableFits t
     → CellsStand t → TableStands ts t
 one_stands ts more t are fits cells =
-    let whole = table_of t.name t.cells in
+    let whole = spelled_table t in
     record {
       fits = fits;
       cells = cells;
@@ -352,13 +355,13 @@ one_stands ts more t are fits cells =
 
     differs :
         (k : ℕ) (d : Table) → k < length ts
-        → (get_or (ts ++ table_of t.name t.cells ∷ more) k d).name
-        ≢ (get_or (ts ++ table_of t.name t.cells ∷ more) (length ts) d).name → (get_or ts k d).name ≢ t.name
+        → (get_or (ts ++ spelled_table t ∷ more) k d).name
+        ≢ (get_or (ts ++ spelled_table t ∷ more) (length ts) d).name → (get_or ts k d).name ≢ t.name
     differs k d low h same =
-        h (ap (λ (x : Table). x.name) (get_or_append_left ts (table_of t.name t.cells ∷ more) d k low)
+        h (ap (λ (x : Table). x.name) (get_or_append_left ts (spelled_table t ∷ more) d k low)
         ∙ (same
-        ∙ (sym (table_name t.name t.cells)
-        ∙ ap (λ (x : Table). x.name) (sym (at ts (table_of t.name t.cells) d more)))))
+        ∙ (sym (table_name t)
+        ∙ ap (λ (x : Table). x.name) (sym (at ts (spelled_table t) d more)))))
 
 tables_run :
     (n : Opener) (ws : List (ℕ × ℕ)) (done more : List TableText) → AllByRecursion TableFits more
@@ -368,7 +371,7 @@ tables_run :
 tables_run n ws done [] fits cells are =
     ap (λ (x : List TableText). Ok (body (setup_of (text n ws x [])))) (sym (append-nil done))
 tables_run n ws done (t ∷ more) fits cells are =
-    let parts = map-append (λ (t : TableText). table_of t.name t.cells) done (t ∷ more) in
+    let parts = map-append (λ (t : TableText). spelled_table t) done (t ∷ more) in
     let stands = one_stands (tables_of done) (tables_of more) t (subst AreTables parts are) fits.0 cells.0 in
     let regroup = append_assoc done (t ∷ []) more in
     rows_append (body (setup_of (text n ws done []))) (table_rows t) (tables_rows more)
@@ -411,6 +414,7 @@ no_arbiter_access (accesses.Read x) = refl
 no_arbiter_access (accesses.Write x y) = refl
 no_arbiter_access (accesses.Pass x) = refl
 no_arbiter_access (accesses.Flush x) = refl
+no_arbiter_access (accesses.Swap x y) = refl
 
 abbrev lines_count : List BoardText → ℕ
 lines_count [] = 0

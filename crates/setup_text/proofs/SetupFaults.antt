@@ -11,7 +11,7 @@ use Rattle.class_relation.specs.Tables.{Table}
 use Rattle.setup.specs.Setup.{Setup}
 use Rattle.table_text.specs.declared.fault.TableKind.{TableKind}
 use Rattle.table_text.specs.Reading.{◌>>=◌, table_line}
-use Rattle.table_text.specs.Spelling.{CellLine, cell_words, HasAlternative, BreaksCell, table_of}
+use Rattle.table_text.specs.Spelling.{CellLine, cell_words, IsVersion, IsLineOf, BreaksCell}
 use Rattle.table_text.specs.Correct.{CanStand}
 use Rattle.table_text.proofs.TableLaws.{table_line_takes}
 use Rattle.setup_text.specs.declared.fault.LimitOf.TheVariants.{Lines}
@@ -20,7 +20,7 @@ use Rattle.setup_text.specs.declared.fault.SetupKind.TheVariants.{UnknownWord, N
 use Rattle.setup_text.specs.declared.fault.SetupFault.{SetupFault}
 use Rattle.setup_text.specs.declared.fault.SetupFault.TheVariants as faults
 use Rattle.setup_text.specs.Spelling.{TableText, BoardText, SetupText, end_row, memory_row, open_table_rows, open_rows, setup_rows, TableFits, SetupFits}
-use Rattle.setup_text.specs.Values.{setup_of}
+use Rattle.setup_text.specs.Values.{spelled_table, setup_of}
 use Rattle.setup_text.specs.Grammars.{setup_grammar, BreaksSetup, JudgedLines, UnfitText, unfit_word, unfit_end, kind_of}
 use Rattle.setup_text.specs.Correct.{IsFirstFault}
 use Rattle.setup_text.specs.Drafts.{empty_setup}
@@ -227,8 +227,11 @@ module _ (n : Opener) (ws : List (ℕ × ℕ)) (ts : List TableText) (t : TableT
   abbrev Done : List Words
   Done = open_rows (text n ws ts []) ++ open_table_rows t
 
-  some_cells : AllByRecursion HasAlternative t.cells
+  some_cells : AllByRecursion (IsLineOf t.version) t.cells
   some_cells = let table = h.table in let fits = table.fits in fits.cells
+
+  known : IsVersion t.version
+  known = let table = h.table in let fits = table.fits in fits.version
 
   fits_with : (u : TableText) → TableFits u → SetupFits (text n ws (ts ++ u ∷ []) [])
   fits_with u f =
@@ -249,19 +252,24 @@ module _ (n : Opener) (ws : List (ℕ × ℕ)) (ts : List TableText) (t : TableT
   next_end : Next Done end_row
   next_end = (text n ws (ts ++ t ∷ []) [], end_row ∷ [], fits_end, end_rows)
 
-  next_cell : (c : CellLine) → HasAlternative c → Next Done (cell_words c)
+  next_cell : (c : CellLine) → IsLineOf t.version c → Next Done (cell_words c)
   next_cell c some =
       let table = h.table in
       let fits = table.fits in
-      let u = table_text t.name (t.cells ++ c ∷ []) in (
+      let u = table_text t.name t.version (t.cells ++ c ∷ []) in (
         text n ws (ts ++ u ∷ []) [],
         end_row ∷ end_row ∷ [],
-        fits_with u (record { name = fits.name; cells = each_push HasAlternative t.cells c fits.cells some }),
+        fits_with u
+            (record {
+              name = fits.name;
+              version = fits.version;
+              cells = each_push (IsLineOf t.version) t.cells c fits.cells some;
+            }),
         ap (λ (x : List Words). x ++ end_row ∷ [])
             (rows_table n ws ts u
             ∙ (rows_close (open_rows (text n ws ts [])) u
             ∙ ap (λ (x : List Words). x ++ end_row ∷ [])
-            (rows_cell (open_rows (text n ws ts [])) t.name t.cells c)))
+            (rows_cell (open_rows (text n ws ts [])) t.name t.version t.cells c)))
             ∙ rows_more Done (cell_words c),
       )
 
@@ -277,26 +285,27 @@ module _ (n : Opener) (ws : List (ℕ × ℕ)) (ts : List TableText) (t : TableT
       ))
 
   inside :
-      (r : SetupText) (l : Words) (others : List Words) → SetupFits r → setup_rows r ≡ Done ++ l ∷ others → InTable l
-  inside r l others fits e = follows_open (text n ws ts []) r t l others refl fits e
+      (r : SetupText) (l : Words) (others : List Words) → SetupFits r → setup_rows r ≡ Done ++ l ∷ others
+      → InTable t.version l
+  inside r l others fits e = follows_open (text n ws ts []) r t l others known refl fits e
 
   open_stops :
-      (line : ℕ) (l : Words) (rest : List Place) (tk : TableKind) → table_line (table_of t.name t.cells) l ≡ Err tk
+      (line : ℕ) (l : Words) (rest : List Place) (tk : TableKind) → table_line (spelled_table t) l ≡ Err tk
       → FaultBehind setup_grammar Done (line_places line l rest) line (kind_of tk)
   open_stops line l rest tk e =
-      line_stops setup_grammar setup_rows spelled BreaksSetup same_breaks same_breaks same_unfit t.name t.cells Done
+      line_stops setup_grammar setup_rows spelled BreaksSetup same_breaks same_breaks same_unfit t Done known
       some_cells inside next_cell next_end
       (λ words here k j. breaks_open (text n ws ts []) t words here k h.so_far j) breaking line l rest tk e
 
-  open_cell_free : (c : CellLine) → CanStand (table_of t.name t.cells) c → FreeFront BreaksSetup Done (cell_words c)
+  open_cell_free : (c : CellLine) → CanStand (spelled_table t) c → FreeFront BreaksSetup Done (cell_words c)
   open_cell_free c can =
-      cell_free setup_grammar setup_rows spelled BreaksSetup same_breaks same_breaks same_unfit t.name t.cells Done
+      cell_free setup_grammar setup_rows spelled BreaksSetup same_breaks same_breaks same_unfit t Done known
       some_cells inside next_cell next_end
       (λ words here k j. breaks_open (text n ws ts []) t words here k h.so_far j) breaking c can
 
   open_end_free : FreeFront BreaksSetup Done end_row
   open_end_free =
-      end_free setup_grammar setup_rows spelled BreaksSetup same_breaks same_breaks same_unfit t.name t.cells Done
+      end_free setup_grammar setup_rows spelled BreaksSetup same_breaks same_breaks same_unfit t Done known
       some_cells inside next_cell next_end
       (λ words here k j. breaks_open (text n ws ts []) t words here k h.so_far j) breaking
 
@@ -372,10 +381,10 @@ line_faults (top m) n l rest k good e = second_stops rest n m l k good e
 line_faults (so_far s) n l rest k good e =
     body_stops rest n (s.lines, s.fair) s.words s.tables s.boards l k
     (λ bare. absurd (both_ways (is_bare s) good.past bare)) good.stands e
-line_faults (opened s t) n l rest k good e = go (table_line (table_of t.name t.cells) l) refl e
+line_faults (opened s t) n l rest k good e = go (table_line (spelled_table t) l) refl e
   where
     go :
-        (x : Result (Bool × Table) TableKind) → table_line (table_of t.name t.cells) l ≡ x
+        (x : Result (Bool × Table) TableKind) → table_line (spelled_table t) l ≡ x
         → (as_setup_kind x >>= λ t. Ok (after_table_line (setup_of s) t)) ≡ Err k
         → FaultBehind setup_grammar (open_rows s ++ open_table_rows t) (line_places n l rest) n k
     go (Ok u) h e = absurd cc
@@ -399,20 +408,20 @@ line_free begin l m good e = first_free l m e
 line_free (top n) l m good e = second_passes [] 0 n l m good e
 line_free (so_far s) l m good e =
     body_passes [] 0 (s.lines, s.fair) s.words s.tables s.boards l m good.stands e
-line_free (opened s t) l m good e = go (table_line (table_of t.name t.cells) l) refl e
+line_free (opened s t) l m good e = go (table_line (spelled_table t) l) refl e
   where
     go :
-        (x : Result (Bool × Table) TableKind) → table_line (table_of t.name t.cells) l ≡ x
+        (x : Result (Bool × Table) TableKind) → table_line (spelled_table t) l ≡ x
         → (as_setup_kind x >>= λ t. Ok (after_table_line (setup_of s) t)) ≡ Ok m
         → FreeFront BreaksSetup (open_rows s ++ open_table_rows t) l
     go (Err tk) h e = absurd cc
     go (Ok (true, u)) h e =
-        let is = table_line_takes (table_of t.name t.cells) l (true, u) (table_whole t) h in
+        let is = table_line_takes (spelled_table t) l (true, u) (table_whole t) h in
         subst (λ (x : Words). FreeFront BreaksSetup (open_rows s ++ open_table_rows t) x) (sym is.0)
         (with_none (λ (x : SetupText). FreeFront BreaksSetup (open_rows x ++ open_table_rows t) end_row) s good.boards
         (open_end_free (s.lines, s.fair) s.words s.tables t (open_none s t good)))
     go (Ok (false, u)) h e =
-        let c = table_line_takes (table_of t.name t.cells) l (false, u) (table_whole t) h in
+        let c = table_line_takes (spelled_table t) l (false, u) (table_whole t) h in
         subst (λ (x : Words). FreeFront BreaksSetup (open_rows s ++ open_table_rows t) x) (sym c.words)
         (with_none (λ (x : SetupText). FreeFront BreaksSetup (open_rows x ++ open_table_rows t) (cell_words c.line)) s
         good.boards (open_cell_free (s.lines, s.fair) s.words s.tables t (open_none s t good) c.line c.can))

@@ -15,14 +15,15 @@ use Rattle.setup.specs.Setup.{Setup, access_count}
 use Rattle.setup.specs.Setup as checked
 use Rattle.table_text.specs.declared.fault.TableKind.{TableKind}
 use Rattle.table_text.specs.Reading.{◌>>=◌, table_line}
-use Rattle.table_text.specs.Spelling.{CellLine, cell_words, entered, all_entered, table_of, HasAlternative}
+use Rattle.table_text.specs.Spelling.{CellLine, cell_words, entered, all_entered, HasAlternative, IsLineOf}
 use Rattle.table_text.specs.Correct.{CanStand, AllStand}
 use Rattle.table_text.proofs.TableLaws.{HasAllCells, table_line_takes, entered_whole, empty_whole}
+use Rattle.table_text.proofs.FirstFaults.{stands_as_line}
 use Rattle.setup_text.specs.declared.fault.LimitOf.TheVariants.{Boards, Accesses}
 use Rattle.setup_text.specs.declared.fault.SetupKind.{SetupKind}
 use Rattle.setup_text.specs.declared.fault.SetupKind.TheVariants.{UnknownWord, Limit}
 use Rattle.setup_text.specs.Spelling.{TableText, BoardText, SetupText, end_row, memory_row, arbiter_row, word_row, head_row, board_row, access_row, shape_words, open_table_rows, table_rows, open_rows, setup_rows}
-use Rattle.setup_text.specs.Values.{memory_of, tables_of, place_of, board_of, setup_of}
+use Rattle.setup_text.specs.Values.{spelled_table, memory_of, tables_of, place_of, board_of, setup_of}
 use Rattle.setup_text.specs.Standing.{StandsSoFar}
 use Rattle.setup_text.specs.Drafts.{named, further, found_name, stays_invalid, with_word, with_table, with_board, with_access, with_fair, empty_setup}
 use Rattle.setup_text.specs.Reading.{Mode, start, headed, body, in_table, ended, value_line, word_line, head_line, table_head, board_front, board_table, shape_at, board_back, board_spec, board_line, board_added, access_line, access_read, end_line, line_ends, maybe_access, body_line, this_word, memory_line, first_line, arbiter_line, second_line, as_setup_kind, after_table_line, line_at}
@@ -30,7 +31,7 @@ use Rattle.setup_text.proofs.LineWords.{binds, ok_same, is_word, word_read, noth
 use Rattle.setup_text.proofs.Naming.{found_known}
 use Rattle.setup_text.proofs.Growing.{each_push}
 use Rattle.setup_text.proofs.Drafts.{board_fits}
-use Rattle.setup_text.proofs.Parts.{Opener, text, is_bare, past_words, past_tables, past_boards, table_text, and_access, rows_word, rows_table, rows_board, rows_access, set_push, memory_long, lines_of_draft, stands_memory, stands_word, TableStands, tables_append, stands_table, spec_of, setup_board, stands_board, setup_access, stands_access}
+use Rattle.setup_text.proofs.Parts.{Opener, text, is_bare, past_words, past_tables, past_boards, table_text, table_version, and_access, rows_word, rows_table, rows_board, rows_access, set_push, memory_long, lines_of_draft, stands_memory, stands_word, TableStands, tables_append, stands_table, spec_of, setup_board, stands_board, setup_access, stands_access}
 
 -- ---- where reading stands, with the text so far
 
@@ -45,7 +46,7 @@ abbrev pub mode_of : Part → Mode
 mode_of begin = start
 mode_of (top n) = headed (setup_of (text (n, false) [] [] []))
 mode_of (so_far s) = body (setup_of s)
-mode_of (opened s t) = in_table (setup_of s) (table_of t.name t.cells)
+mode_of (opened s t) = in_table (setup_of s) (spelled_table t)
 mode_of (closed s) = ended (setup_of s)
 
 abbrev pub rows_of : Part → List Words
@@ -131,18 +132,24 @@ head_takes :
 head_takes n ws ts (b ∷ bs) l m s e = absurd cc
 head_takes n ws ts [] l m s e =
     let setup = setup_of (text n ws ts []) in
-    let a = binds (head_line setup.tables l) (λ name. Ok (in_table setup (empty_table name))) m e in
+    let a = binds (head_line setup.tables l) (λ x. Ok (in_table setup (empty_table x.0 x.1))) m e in
     let r = head_read setup.tables l a.value a.here in
-    grows_by (so_far (text n ws ts [])) (head_row a.value) (codes "table" ∷ l) m
+    grows_by (so_far (text n ws ts [])) (head_row a.value.0 a.value.1) (codes "table" ∷ l) m
     (ap (λ (u : Words). codes "table" ∷ u) r.words) (record {
-      next = opened (text n ws ts []) (table_text a.value []);
+      next = opened (text n ws ts []) (table_text a.value.0 a.value.1 []);
       good =
           record {
             so_far = s;
             boards = refl;
-            table = record { fits = record { name = r.named_; cells = tt }; cells = tt; few = r.few; new = r.new };
+            table =
+                record {
+                  fits = record { name = r.named_; version = r.known; cells = tt };
+                  cells = tt;
+                  few = r.few;
+                  new = r.new;
+                };
           };
-      mode = ok_same (in_table setup (empty_table a.value)) m a.then;
+      mode = ok_same (in_table setup (empty_table a.value.0 a.value.1)) m a.then;
       rows = refl;
     })
 
@@ -413,17 +420,27 @@ whole_cells : (t : Table) (cells : List CellLine) → HasAllCells t → HasAllCe
 whole_cells t [] h = h
 whole_cells t (c ∷ cells) h = whole_cells (entered t c) cells (entered_whole t c h)
 
-pub table_whole : (t : TableText) → HasAllCells (table_of t.name t.cells)
-table_whole t = whole_cells (empty_table t.name) t.cells (empty_whole t.name)
+pub table_whole : (t : TableText) → HasAllCells (spelled_table t)
+table_whole t = whole_cells (empty_table t.name t.version) t.cells (empty_whole t.name t.version)
+
+-- a line that can stand in a table is one of its version
+pub cell_is_line :
+    (t : TableText) (c : CellLine) → HasAlternative c → CanStand (spelled_table t) c → IsLineOf t.version c
+cell_is_line t c some can =
+    subst (λ (v : ℕ). IsLineOf v c) (table_version t) (stands_as_line (spelled_table t) c some can)
 
 -- an open table with one more cell line
 pub cell_stands :
-    (tables : List Table) (name : List ℕ) (cells : List CellLine) (c : CellLine)
-    → TableStands tables (table_text name cells) → HasAlternative c → CanStand (table_of name cells) c
-    → TableStands tables (table_text name (cells ++ c ∷ []))
-cell_stands tables name cells c h some can = record {
-  fits = record { name = h.fits.name; cells = each_push HasAlternative cells c h.fits.cells some };
-  cells = stand_push (empty_table name) cells c h.cells can;
+    (tables : List Table) (t : TableText) (c : CellLine) → TableStands tables t → HasAlternative c
+    → CanStand (spelled_table t) c → TableStands tables (table_text t.name t.version (t.cells ++ c ∷ []))
+cell_stands tables t c h some can = record {
+  fits =
+      record {
+        name = h.fits.name;
+        version = h.fits.version;
+        cells = each_push (IsLineOf t.version) t.cells c h.fits.cells (cell_is_line t c some can);
+      };
+  cells = stand_push (empty_table t.name t.version) t.cells c h.cells can;
   few = h.few;
   new = h.new;
 }
@@ -433,16 +450,16 @@ rows_close :
 rows_close before t = sym (append_assoc before (open_table_rows t) (end_row ∷ []))
 
 rows_cell :
-    (before : List Words) (name : List ℕ) (cells : List CellLine) (c : CellLine)
-    → before ++ open_table_rows (table_text name (cells ++ c ∷ []))
-    ≡ (before ++ open_table_rows (table_text name cells)) ++ cell_words c ∷ []
-rows_cell before name cells c =
-    ap (λ (v : List Words). before ++ (head_row name ∷ v)) (map-append cell_words cells (c ∷ []))
-    ∙ sym (append_assoc before (open_table_rows (table_text name cells)) (cell_words c ∷ []))
+    (before : List Words) (name : List ℕ) (version : ℕ) (cells : List CellLine) (c : CellLine)
+    → before ++ open_table_rows (table_text name version (cells ++ c ∷ []))
+    ≡ (before ++ open_table_rows (table_text name version cells)) ++ cell_words c ∷ []
+rows_cell before name version cells c =
+    ap (λ (v : List Words). before ++ (head_row name version ∷ v)) (map-append cell_words cells (c ∷ []))
+    ∙ sym (append_assoc before (open_table_rows (table_text name version cells)) (cell_words c ∷ []))
 
 setup_table :
     (n : Opener) (ws : List (ℕ × ℕ)) (ts : List TableText) (t : TableText)
-    → setup_of (text n ws (ts ++ t ∷ []) []) ≡ with_table (setup_of (text n ws ts [])) (table_of t.name t.cells)
+    → setup_of (text n ws (ts ++ t ∷ []) []) ≡ with_table (setup_of (text n ws ts [])) (spelled_table t)
 setup_table n ws ts t =
     ap (λ (x : List Table). record { memory = memory_of n.0 ws; fair = n.1; tables = x; boards = []; scripts = [] })
     (tables_append ts t)
@@ -450,17 +467,17 @@ setup_table n ws ts t =
 table_takes :
     (n : Opener) (ws : List (ℕ × ℕ)) (ts : List TableText) (t : TableText) (l : Words) (m : Mode)
     → OpenStands (text n ws ts []) t
-    → line_at (in_table (setup_of (text n ws ts [])) (table_of t.name t.cells)) l ≡ Ok m
+    → line_at (in_table (setup_of (text n ws ts [])) (spelled_table t)) l ≡ Ok m
     → Grows (opened (text n ws ts []) t) l m
-table_takes n ws ts t l m h e = go (table_line (table_of t.name t.cells) l) refl e
+table_takes n ws ts t l m h e = go (table_line (spelled_table t) l) refl e
   where
     go :
-        (x : Result (Bool × Table) TableKind) → table_line (table_of t.name t.cells) l ≡ x
+        (x : Result (Bool × Table) TableKind) → table_line (spelled_table t) l ≡ x
         → (as_setup_kind x >>= λ t. Ok (after_table_line (setup_of (text n ws ts [])) t)) ≡ Ok m
         → Grows (opened (text n ws ts []) t) l m
     go (Err k) r e = absurd cc
     go (Ok (true, u)) r e =
-        let is = table_line_takes (table_of t.name t.cells) l (true, u) (table_whole t) r in
+        let is = table_line_takes (spelled_table t) l (true, u) (table_whole t) r in
         grows_by (opened (text n ws ts []) t) end_row l m is.0 (record {
           next = so_far (text n ws (ts ++ t ∷ []) []);
           good = record { stands = stands_table n ws ts t h.so_far h.table; past = past_tables n ws ts t };
@@ -471,20 +488,20 @@ table_takes n ws ts t l m h e = go (table_line (table_of t.name t.cells) l) refl
           rows = rows_table n ws ts t ∙ rows_close (open_rows (text n ws ts [])) t;
         })
     go (Ok (false, u)) r e =
-        let c = table_line_takes (table_of t.name t.cells) l (false, u) (table_whole t) r in
+        let c = table_line_takes (spelled_table t) l (false, u) (table_whole t) r in
         grows_by (opened (text n ws ts []) t) (cell_words c.line) l m c.words (record {
-          next = opened (text n ws ts []) (table_text t.name (t.cells ++ c.line ∷ []));
+          next = opened (text n ws ts []) (table_text t.name t.version (t.cells ++ c.line ∷ []));
           good =
               record {
                 so_far = h.so_far;
                 boards = refl;
-                table = cell_stands (tables_of ts) t.name t.cells c.line h.table c.some c.can;
+                table = cell_stands (tables_of ts) t c.line h.table c.some c.can;
               };
           mode =
               ap (λ (x : Table). in_table (setup_of (text n ws ts [])) x)
-              (entered_push (empty_table t.name) t.cells c.line ∙ sym c.enters)
+              (entered_push (empty_table t.name t.version) t.cells c.line ∙ sym c.enters)
               ∙ ok_same (in_table (setup_of (text n ws ts [])) u) m e;
-          rows = rows_cell (open_rows (text n ws ts [])) t.name t.cells c.line;
+          rows = rows_cell (open_rows (text n ws ts [])) t.name t.version t.cells c.line;
         })
 
 -- ---- the line after the `memory` line
@@ -540,6 +557,6 @@ line_takes (opened s t) l m good e =
     ap (λ (x : List BoardText). text (s.lines, s.fair) s.words s.tables x) (sym good.boards) in
     let P : SetupText → Type 0 =
     λ x.
-    OpenStands x t → line_at (in_table (setup_of x) (table_of t.name t.cells)) l ≡ Ok m → Grows (opened x t) l m in
+    OpenStands x t → line_at (in_table (setup_of x) (spelled_table t)) l ≡ Ok m → Grows (opened x t) l m in
     (subst P none (λ h k. table_takes (s.lines, s.fair) s.words s.tables t l m h k)) good e
 line_takes (closed s) l m good e = absurd cc

@@ -5,7 +5,7 @@ use Rattle.class_relation.specs.Tables.{Table, empty_table}
 use Rattle.table_text.specs.declared.fault.TableKind.{TableKind}
 use Rattle.table_text.specs.Spelling.{CellLine, local, answer, entered, all_entered}
 use Rattle.table_text.specs.Correct.{IsTable}
-use Rattle.table_text.specs.Reading.{◌>>=◌, table_line, table_lines, table_at}
+use Rattle.table_text.specs.Reading.{◌>>=◌, version_at, table_line, table_lines, table_at}
 use Rattle.table_text.specs.Reading as TableReading
 use Rattle.setup_text.specs.declared.fault.SetupKind.TheVariants.{NoEnd}
 use Rattle.setup_text.specs.Reading.{Fault, on_line, as_setup_kind, as_setup_fault}
@@ -17,7 +17,7 @@ entered_name t (local s e alts ∷ cells) = entered_name (entered t (local s e a
 entered_name t (answer s e alts ∷ cells) = entered_name (entered t (answer s e alts)) cells
 
 pub is_named : (name : List ℕ) (u left : Unread) (t : Table) → IsTable name u t left → t.name ≡ name
-is_named name u left t h = ap (λ (x : Table). x.name) h.value ∙ entered_name (empty_table name) h.cells
+is_named name u left t h = ap (λ (x : Table). x.name) h.value ∙ entered_name (empty_table name h.version) h.cells
 
 -- what is left after a table is no longer than what was there
 pub lines_shorter :
@@ -44,14 +44,14 @@ lines_shorter t (l ∷ ls) end r e = go (λ cells h. lines_shorter cells ls end 
 pub is_shorter :
     (name : List ℕ) (u : Unread) (r : Table × Unread) → table_at name u ≡ Ok r → length r.1.lines ≤ length u.lines
 unfolding table_at
-is_shorter name u r e = go (TableReading.line_ends u.words) e
+is_shorter name u r e = go (version_at u.words) e
   where
     go :
-        (x : Result (Unit {0}) TableKind)
-        → ((TableReading.on_line u.line x) >>= λ _. table_lines (empty_table name) u.lines u.end) ≡ Ok r
+        (x : Result ℕ TableKind)
+        → ((TableReading.on_line u.line x) >>= λ v. table_lines (empty_table name v) u.lines u.end) ≡ Ok r
         → length r.1.lines ≤ length u.lines
     go (Err k) e = absurd cc
-    go (Ok x) e = lines_shorter (empty_table name) u.lines u.end r e
+    go (Ok v) e = lines_shorter (empty_table name v) u.lines u.end r e
 
 -- the lines of a table, read as lines of a text, up to where the table ends
 module _ {R : Type 0} (within whole : Table → List Line → ℕ → Result R Fault)

@@ -5,7 +5,7 @@ use Rattle.std.specs.List.{AllByRecursion}
 use Rattle.std.proofs.Math.Nat.{mul-le-mul_left}
 use Rattle.bus_signals.specs.declared.Access.{Access}
 use Rattle.class_relation.specs.Names.{is_name}
-use Rattle.class_relation.specs.Tables.{Table, empty_table, IsWhole}
+use Rattle.class_relation.specs.Tables.{Table, no_table, IsWhole}
 use Rattle.table_check.specs.declared.boards.BoardSpec.{BoardSpec}
 use Rattle.table_check.specs.declared.boards.Shape.{Shape}
 use Rattle.table_check.specs.declared.boards.Shape.TheVariants.{Plain, Cached}
@@ -25,7 +25,7 @@ board_again :
     → board_of tables (text_of_board tables place b script) ≡ b
 board_again tables place b script differ lt =
     ap (λ (n : ℕ). record { number = b.number; table = n; shape = b.shape; choose = b.choose })
-    (place_again tables b.table (empty_table []) differ lt)
+    (place_again tables b.table no_table differ lt)
 
 pub boards_again :
     (s : Setup) (tables : List Table) (place : ℕ) (bs : List BoardSpec) (ss : List (List Access)) → tables ≡ s.tables
@@ -83,8 +83,8 @@ board_fits s tables place b script same whole low fits choose accesses = record 
   place = low;
   number = (fits.number_low, fits.number_high);
   table =
-      name_at tables b.table (empty_table []) whole (omega (arith, fits.table, ap (λ (v : List Table). length v) same));
-  shape = shape_fits (slice_index_or s.tables b.table (empty_table [])) b.shape fits.shape;
+      name_at tables b.table no_table whole (omega (arith, fits.table, ap (λ (v : List Table). length v) same));
+  shape = shape_fits (slice_index_or s.tables b.table no_table) b.shape fits.shape;
   choose = choose;
   script = accesses;
 }

@@ -11,12 +11,12 @@ use Rattle.std.proofs.lemmas.Str.Parse.{digit_from_value}
 use Rattle.fb_text.specs.Places.{Words}
 use Rattle.fb_text.specs.Written.{is_word_byte, is_word, AreLines}
 use Rattle.bus_signals.specs.declared.Access.{Access}
-use Rattle.bus_signals.specs.declared.Access.TheVariants.{Read, Write, Pass, Flush}
+use Rattle.bus_signals.specs.declared.Access.TheVariants.{Read, Write, Pass, Flush, Swap}
 use Rattle.table_check.specs.declared.boards.Shape.{Shape}
 use Rattle.table_check.specs.declared.boards.Shape.TheVariants.{Plain, Cached}
 use Rattle.table_check.specs.declared.boards.Choose.{Choose}
 use Rattle.table_check.specs.declared.boards.Choose.TheVariants.{First, Round, Seed}
-use Rattle.table_text.proofs.Plain.{rows_plain, name_plain}
+use Rattle.table_text.proofs.Plain.{rows_plain, name_plain, version_plain}
 use Rattle.setup_text.specs.Spelling.{TableText, BoardText, SetupText, end_row, arbiter_rows, word_row, shape_words, choose_words, board_row, access_row, board_rows, tables_rows, setup_rows, ShapeFits, ChooseFits, AccessFits, WordFits, TableFits, BoardFits, SetupFits}
 use Rattle.setup_text.proofs.Writes.{all_append}
 
@@ -64,6 +64,10 @@ access_plain (Write addr value) h = (
 )
 access_plain (Pass addr) h = (omega arith, (refl, (decimal_plain addr (omega arith), tt)))
 access_plain (Flush addr) h = (omega arith, (refl, (decimal_plain addr (omega arith), tt)))
+access_plain (Swap addr value) h = (
+  omega arith,
+  (refl, (decimal_plain addr (let a = h.0 in omega arith), (decimal_plain value (let v = h.1 in omega arith), tt))),
+)
 
 accesses_plain : (as_ : List Access) → AllByRecursion AccessFits as_ → AreLines (map access_row as_)
 accesses_plain [] h = tt
@@ -117,7 +121,7 @@ boards_plain (b ∷ bs) h = (
 tables_plain : (ts : List TableText) → AllByRecursion TableFits ts → AreLines (tables_rows ts)
 tables_plain [] h = tt
 tables_plain (t ∷ ts) h = (
-  (omega arith, (refl, (name_plain t.name h.0.name, tt))),
+  (omega arith, (refl, (name_plain t.name h.0.name, version_plain t.version h.0.version))),
   all_append IsLine _ (tables_rows ts) (rows_plain t.cells) (tables_plain ts h.1),
 )
 

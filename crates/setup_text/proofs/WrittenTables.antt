@@ -5,10 +5,11 @@ use Rattle.std.specs.Str.{bytes_eq}
 use Rattle.std.specs.List.{AllByRecursion}
 use Rattle.std.proofs.lemmas.Slice.Eq.{bytes_eq-Decides}
 use Rattle.class_relation.specs.Tables.{Table, empty_table, IsWhole}
-use Rattle.table_text.specs.Spelling.{CellLine, local, answer, entered, HasAlternative}
+use Rattle.table_text.specs.Spelling.{CellLine, local, answer, entered, IsLineOf}
 use Rattle.table_text.specs.Correct.{AllStand}
 use Rattle.table_text.specs.Writing.{cells_of}
 use Rattle.table_text.proofs.Order.{cells_stand, cells_spell}
+use Rattle.table_text.proofs.FirstFaults.{stands_as_line}
 use Rattle.setup_text.specs.Spelling.{TableFits}
 use Rattle.setup_text.specs.Values.{tables_of, place_of}
 use Rattle.setup_text.specs.Correct.{CellsStand}
@@ -24,16 +25,22 @@ pub tables_stand : (ts : List Table) → AllByRecursion IsWhole ts → AllByRecu
 tables_stand [] h = tt
 tables_stand (t ∷ ts) h = (cells_stand t h.0, tables_stand ts h.1)
 
--- cell lines that can stand have alternatives
-have_alternatives : (t : Table) (cells : List CellLine) → AllStand t cells → AllByRecursion HasAlternative cells
-have_alternatives t [] h = tt
-have_alternatives t (local s e alts ∷ cells) h = (h.0.1, have_alternatives (entered t (local s e alts)) cells h.1)
-have_alternatives t (answer s e alts ∷ cells) h = (h.0.1, have_alternatives (entered t (answer s e alts)) cells h.1)
+-- cell lines that can stand are lines of the version
+lines_fit : (t : Table) (cells : List CellLine) → AllStand t cells → AllByRecursion (IsLineOf t.version) cells
+lines_fit t [] h = tt
+lines_fit t (local s e alts ∷ cells) h =
+    (stands_as_line t (local s e alts) h.0.1 h.0, lines_fit (entered t (local s e alts)) cells h.1)
+lines_fit t (answer s e alts ∷ cells) h =
+    (stands_as_line t (answer s e alts) h.0.1 h.0, lines_fit (entered t (answer s e alts)) cells h.1)
 
 pub tables_fit : (ts : List Table) → AllByRecursion IsWhole ts → AllByRecursion TableFits (map text_of_table ts)
 tables_fit [] h = tt
 tables_fit (t ∷ ts) h = (
-  record { name = h.0.named; cells = have_alternatives (empty_table t.name) (cells_of t) (cells_stand t h.0) },
+  record {
+    name = h.0.named;
+    version = (let cells = h.0.cells in let keeps = cells.version in keeps.known);
+    cells = lines_fit (empty_table t.name t.version) (cells_of t) (cells_stand t h.0);
+  },
   tables_fit ts h.1,
 )
 

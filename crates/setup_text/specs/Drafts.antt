@@ -5,7 +5,7 @@ use Rattle.std.specs.Str.{bytes_eq}
 use Rattle.bus_signals.specs.declared.Access.{Access}
 use Rattle.bus_signals.specs.Accesses.{address_of}
 use Rattle.moesi_state.specs.declared.State.TheVariants.{M, O, E, S}
-use Rattle.class_relation.specs.Tables.{Table, empty_table}
+use Rattle.class_relation.specs.Tables.{Table, no_table}
 use Rattle.table_check.specs.declared.boards.BoardSpec.{BoardSpec}
 use Rattle.table_check.specs.declared.boards.Shape.{Shape}
 use Rattle.table_check.specs.declared.boards.Shape.TheVariants.{Plain, Cached}
@@ -96,7 +96,7 @@ pub record IsDraft (setup : Setup) : Type 0 where
 -- The place is that of a table, and says whether it reaches no state but I.
 abbrev pub IsKnown : List Table → ℕ × Bool → Type 0
 IsKnown tables p =
-    (p.0 < length tables) × (p.1 ≡ stays_invalid (slice_index_or tables p.0 (empty_table [])))
+    (p.0 < length tables) × (p.1 ≡ stays_invalid (slice_index_or tables p.0 no_table))
 
 -- The cache of a board, of a table that reaches no state but I or not.
 abbrev pub IsShape : Bool → Shape → Type 0

@@ -30,6 +30,7 @@ pub data Slot : Type 0 where
   address : Slot
   value : Slot
   name : Slot
+  version : Slot
   place : Slot
   number : Slot
   table : Slot
@@ -85,7 +86,10 @@ fronts =
     ∷ (the (codes "write") ∷ any ∷ [], value)
     ∷ (the (codes "pass") ∷ [], address)
     ∷ (the (codes "flush") ∷ [], address)
+    ∷ (the (codes "swap") ∷ [], address)
+    ∷ (the (codes "swap") ∷ any ∷ [], value)
     ∷ (the (codes "table") ∷ [], name)
+    ∷ (the (codes "table") ∷ any ∷ the (codes "version") ∷ [], version)
     ∷ (the (codes "board") ∷ [], place)
     ∷ (the (codes "board") ∷ any ∷ the (codes "number") ∷ [], number)
     ∷ (the (codes "board") ∷ any ∷ the (codes "number") ∷ any ∷ the (codes "table") ∷ [], table)
@@ -109,6 +113,7 @@ abbrev pub wants_number : Slot → Bool
 wants_number lines = true
 wants_number address = true
 wants_number value = true
+wants_number version = true
 wants_number place = true
 wants_number number = true
 wants_number sets = true
@@ -195,6 +200,7 @@ JudgedLines w kind =
 -- The kind of a table's fault in a setup or a text of tables.
 abbrev pub kind_of : TableKind → SetupKind
 kind_of table_kinds.UnknownWord = UnknownWord
+kind_of table_kinds.Number = Number
 kind_of table_kinds.TwiceCell = TwiceCell
 kind_of table_kinds.NoCell = NoCell
 kind_of (table_kinds.Alternatives count) = Limit Alternatives count

@@ -21,7 +21,7 @@ use Rattle.table_check.specs.declared.boards.Shape.{Shape}
 use Rattle.table_check.specs.declared.boards.Shape.TheVariants.{Plain, Cached}
 use Rattle.setup.specs.Setup.{Setup, access_count}
 use Rattle.table_text.specs.declared.fault.TableKind.{TableKind}
-use Rattle.table_text.specs.Reading.{◌>>=◌, table_line, table_at}
+use Rattle.table_text.specs.Reading.{◌>>=◌, version_at, table_line, table_at}
 use Rattle.table_text.specs.Reading as TableReading
 use Rattle.setup_text.specs.declared.fault.LimitOf.TheVariants.{Lines, Tables, Boards, Frames, Accesses}
 use Rattle.setup_text.specs.declared.fault.SetupKind.{SetupKind}
@@ -186,16 +186,18 @@ access_of events.Read a = accesses.Read a.0
 access_of events.Write a = accesses.Write a.0 a.1
 access_of events.Pass a = accesses.Pass a.0
 access_of events.Flush a = accesses.Flush a.0
+access_of events.Swap a = accesses.Swap a.0 a.1
 
 abbrev pub one_address : ℕ → Words → Result (ℕ × ℕ) SetupKind
 one_address bound ws = address_line bound ws >>= λ a. Ok (a, 0)
 
--- The address of an access, and the value of a write.
+-- The address of an access, and the value of a write or a swap.
 abbrev pub access_parts : ℕ → LocalEvent → Words → Result (ℕ × ℕ) SetupKind
 access_parts bound events.Read ws = one_address bound ws
 access_parts bound events.Write ws = value_line bound ws
 access_parts bound events.Pass ws = one_address bound ws
 access_parts bound events.Flush ws = one_address bound ws
+access_parts bound events.Swap ws = value_line bound ws
 
 unfoldable pub access_line : ℕ → LocalEvent → Words → Result Access SetupKind
 access_line bound event ws = access_parts bound event ws >>= λ a. Ok (access_of event a)
@@ -237,13 +239,24 @@ unfoldable pub head_name : List Table → Words → Result (List ℕ × Words) S
 head_name tables ws =
     if nat_lt (length tables) 16 then (name_at ws >>= new_name tables) else Err (Limit Tables 17)
 
-abbrev pub head_line : List Table → Words → Result (List ℕ) SetupKind
-head_line tables ws = head_name tables ws >>= λ n. line_ends n.1 >>= λ _. Ok n.0
+-- The fault of a table, as one of a setup.
+abbrev pub as_setup_kind : {X : Type 0} → Result X TableKind → Result X SetupKind
+as_setup_kind (Ok x) = Ok x
+as_setup_kind (Err kind) = Err (kind_of kind)
+
+-- A name with the version that was read after it.
+abbrev pub with_version : List ℕ → Result ℕ TableKind → Result (List ℕ × ℕ) SetupKind
+with_version name version = as_setup_kind version >>= λ v. Ok (name, v)
+
+-- The name and the version of one more table, after the word `table`.
+abbrev pub head_line : List Table → Words → Result (List ℕ × ℕ) SetupKind
+head_line tables ws =
+    head_name tables ws >>= λ n. with_version n.0 (version_at n.1)
 
 abbrev pub table_head : Setup → Words → Result Mode SetupKind
 table_head setup ws =
     if is_empty setup.boards
-    then (head_line setup.tables ws >>= λ name. Ok (in_table setup (empty_table name)))
+    then (head_line setup.tables ws >>= λ t. Ok (in_table setup (empty_table t.0 t.1)))
     else Err UnknownWord
 
 abbrev pub board_added : Setup → Words → Result Mode SetupKind
@@ -296,10 +309,6 @@ second_line setup (w ∷ ws) =
     if bytes_eq w (codes "arbiter") then arbiter_line setup ws else body_line setup (w ∷ ws)
 
 -- A line of a table, which may be its last.
-abbrev pub as_setup_kind : {X : Type 0} → Result X TableKind → Result X SetupKind
-as_setup_kind (Ok x) = Ok x
-as_setup_kind (Err kind) = Err (kind_of kind)
-
 abbrev pub after_table_line : Setup → Bool × Table → Mode
 after_table_line setup t = if t.0 then body (with_table setup t.1) else in_table setup t.1
 
@@ -354,7 +363,7 @@ pub data BookMode : Type 0 where
 abbrev pub book_head : List Table → Words → Result BookMode SetupKind
 book_head tables ws =
     this_word (codes "table") ws >>=
-    λ after. head_line tables after >>= λ name. Ok (within tables (empty_table name))
+    λ after. head_line tables after >>= λ t. Ok (within tables (empty_table t.0 t.1))
 
 abbrev pub after_book_line : List Table → Bool × Table → BookMode
 after_book_line tables t = if t.0 then whole (tables ++ t.1 ∷ []) else within tables t.1

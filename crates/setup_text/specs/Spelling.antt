@@ -3,19 +3,20 @@ use Rattle.std.specs.Prelude.{◌≡◌, ℕ, ◌<◌, ◌≤◌, ◌^◌, Bool,
 use Rattle.std.specs.List.{flat_map, AllByRecursion}
 use Rattle.fb_text.specs.Places.{Words, Item, text_end, lines_items}
 use Rattle.bus_signals.specs.declared.Access.{Access}
-use Rattle.bus_signals.specs.declared.Access.TheVariants.{Read, Write, Pass, Flush}
+use Rattle.bus_signals.specs.declared.Access.TheVariants.{Read, Write, Pass, Flush, Swap}
 use Rattle.class_relation.specs.Names.{is_name}
 use Rattle.table_check.specs.declared.boards.Shape.{Shape}
 use Rattle.table_check.specs.declared.boards.Shape.TheVariants.{Plain, Cached}
 use Rattle.table_check.specs.declared.boards.Choose.{Choose}
 use Rattle.table_check.specs.declared.boards.Choose.TheVariants.{First, Round, Seed}
-use Rattle.table_text.specs.Spelling.{CellLine, cell_words, HasAlternative}
+use Rattle.table_text.specs.Spelling.{CellLine, cell_words, version_words, IsVersion, IsLineOf}
 
 -- ---- what is written
 
--- A table: its name, and its cell lines in their order.
+-- A table: its name, its version, and its cell lines in their order.
 pub record TableText : Type 0 where
   pub name : List ℕ
+  pub version : ℕ
   pub cells : List CellLine
 
 -- A board line, and the accesses after it.
@@ -50,8 +51,8 @@ arbiter_row = codes "arbiter" ∷ codes "fair" ∷ []
 abbrev pub word_row : ℕ × ℕ → Words
 word_row w = codes "word" ∷ decimal w.0 ∷ decimal w.1 ∷ []
 
-abbrev pub head_row : List ℕ → Words
-head_row name = codes "table" ∷ name ∷ []
+abbrev pub head_row : List ℕ → ℕ → Words
+head_row name version = codes "table" ∷ name ∷ version_words version
 
 abbrev pub shape_words : Shape → Words
 shape_words Plain = codes "plain" ∷ []
@@ -72,12 +73,13 @@ access_row (Read addr) = codes "read" ∷ decimal addr ∷ []
 access_row (Write addr value) = codes "write" ∷ decimal addr ∷ decimal value ∷ []
 access_row (Pass addr) = codes "pass" ∷ decimal addr ∷ []
 access_row (Flush addr) = codes "flush" ∷ decimal addr ∷ []
+access_row (Swap addr value) = codes "swap" ∷ decimal addr ∷ decimal value ∷ []
 
 -- ---- the lines of each part
 
 -- The head line of a table and its cell lines, before its `end` line.
 abbrev pub open_table_rows : TableText → List Words
-open_table_rows t = head_row t.name ∷ map cell_words t.cells
+open_table_rows t = head_row t.name t.version ∷ map cell_words t.cells
 
 abbrev pub table_rows : TableText → List Words
 table_rows t = open_table_rows t ++ end_row ∷ []
@@ -131,13 +133,15 @@ AccessFits (Read addr) = addr < 2 ^ 32
 AccessFits (Write addr value) = (addr < 2 ^ 32) × (value < 2 ^ 32)
 AccessFits (Pass addr) = addr < 2 ^ 32
 AccessFits (Flush addr) = addr < 2 ^ 32
+AccessFits (Swap addr value) = (addr < 2 ^ 32) × (value < 2 ^ 32)
 
 abbrev pub WordFits : ℕ × ℕ → Type 0
 WordFits w = (w.0 < 2 ^ 32) × (w.1 < 2 ^ 32)
 
 pub record TableFits (t : TableText) : Type 0 where
   pub name : is_name t.name ≡ true
-  pub cells : AllByRecursion HasAlternative t.cells
+  pub version : IsVersion t.version
+  pub cells : AllByRecursion (IsLineOf t.version) t.cells
 
 pub record BoardFits (b : BoardText) : Type 0 where
   pub place : b.place < 2 ^ 32

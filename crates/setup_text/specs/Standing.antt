@@ -10,7 +10,7 @@ use Rattle.setup_text.specs.Drafts.{AreTables, IsDraft}
 
 -- The cell lines of a table can stand after one another.
 abbrev pub CellsStand : TableText → Type 0
-CellsStand t = AllStand (empty_table t.name) t.cells
+CellsStand t = AllStand (empty_table t.name t.version) t.cells
 
 -- The boards have the places from this one on.
 abbrev pub InPlaces : ℕ → List BoardText → Type 0

@@ -5,7 +5,7 @@ use Rattle.std.specs.Str.{bytes_eq}
 use Rattle.class_relation.specs.Tables.{Table}
 use Rattle.table_check.specs.declared.boards.BoardSpec.{BoardSpec}
 use Rattle.setup.specs.Setup.{Setup}
-use Rattle.table_text.specs.Spelling.{table_of}
+use Rattle.table_text.specs.Spelling.{body, table_of}
 use Rattle.setup_text.specs.Spelling.{TableText, BoardText, SetupText}
 
 -- Words of memory after `word` lines: where an address is named twice the last line counts.
@@ -17,9 +17,13 @@ words_set memory (w ∷ ws) = words_set (slice_set memory w.0 w.1) ws
 abbrev pub memory_of : ℕ → List (ℕ × ℕ) → List ℕ
 memory_of lines words = words_set (replicate (4 * lines) 0) words
 
+-- The table that is written.
+abbrev pub spelled_table : TableText → Table
+spelled_table t = table_of t.name (body t.version t.cells)
+
 -- The tables that are written.
 abbrev pub tables_of : List TableText → List Table
-tables_of tables = map (λ t. table_of t.name t.cells) tables
+tables_of tables = map spelled_table tables
 
 abbrev pub names_of : List Table → List (List ℕ)
 names_of tables = map (λ (t : Table). t.name) tables

@@ -6,7 +6,7 @@ use Rattle.fb_text.specs.Unread.{Line, unread, numbered}
 use Rattle.fb_text.specs.Places.{Item, items, lines_places}
 use Rattle.fb_text.specs.Written.{lines_bytes}
 use Rattle.bus_signals.specs.declared.Access.{Access}
-use Rattle.class_relation.specs.Tables.{Table, empty_table, IsWhole}
+use Rattle.class_relation.specs.Tables.{Table, no_table, IsWhole}
 use Rattle.table_check.specs.declared.boards.BoardSpec.{BoardSpec}
 use Rattle.setup.specs.Setup.{Setup, WellFormed, line_count, access_count}
 use Rattle.table_text.specs.Writing.{cells_of, table_room}
@@ -24,14 +24,14 @@ words_from addr (w ∷ ws) =
 
 -- A table, with its cells in cell order.
 abbrev pub text_of_table : Table → TableText
-text_of_table t = record { name = t.name; cells = cells_of t }
+text_of_table t = record { name = t.name; version = t.version; cells = cells_of t }
 
 -- A board at this place, with the name of its table, and its script.
 abbrev pub text_of_board : List Table → ℕ → BoardSpec → List Access → BoardText
 text_of_board tables place b script = record {
   place = place;
   number = b.number;
-  table = (slice_index_or tables b.table (empty_table [])).name;
+  table = (slice_index_or tables b.table no_table).name;
   shape = b.shape;
   choose = b.choose;
   script = script;

@@ -20,6 +20,7 @@ fn kind_of(kind: TableKind) -> SetupKind
 {
     match kind {
         TableKind::UnknownWord => SetupKind::UnknownWord,
+        TableKind::Number => SetupKind::Number,
         TableKind::TwiceCell => SetupKind::TwiceCell,
         TableKind::NoCell => SetupKind::NoCell,
         TableKind::Alternatives { count } => SetupKind::Limit {

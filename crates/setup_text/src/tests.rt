@@ -34,6 +34,12 @@ fn setups_with_a_fault(rt: HostRuntime) -> Result<(), Fail> {
         ("memory 1\nword 4\n", 2, SetupKind::Address),
         ("memory 1\nend\n", 2, limit(LimitOf::Boards, 0)),
         ("memory 1\ntable x\nend\nboard 2\n", 4, SetupKind::Number),
+        ("memory 1\ntable x version 3\n", 2, SetupKind::Number),
+        (
+            "memory 1\ntable x\nI swap = I usw\n",
+            3,
+            SetupKind::UnknownWord,
+        ),
     ];
     for (text, line, kind) in rows {
         let read = read_as_setup(rt.alloc(), text)?;
@@ -59,6 +65,8 @@ fn texts_of_one_table_are_read(rt: HostRuntime) -> Result<(), Fail> {
         ("table xy\nend\n", Ok(2)),
         ("end\n", bad(1, SetupKind::UnknownWord)),
         ("table x\n", bad(2, SetupKind::NoEnd)),
+        ("table x version 2\nI swap = I usw\nend\n", Ok(1)),
+        ("table x v2\n", bad(1, SetupKind::UnknownWord)),
     ];
     for (text, wanted) in rows {
         assert_eq!(rt; alone_in(rt.alloc(), text)?, wanted, "{text}");

@@ -167,5 +167,9 @@ pub fn access(scan: &mut Scan, bound: u32, event: LocalEvent) -> Result<Access, 
         }
         LocalEvent::Pass => Ok(Access::Pass(Addr(address_line(scan, bound)?))),
         LocalEvent::Flush => Ok(Access::Flush(Addr(address_line(scan, bound)?))),
+        LocalEvent::Swap => {
+            let (address, value) = value_line(scan, bound)?;
+            Ok(Access::Swap(Addr(address), value))
+        }
     }
 }

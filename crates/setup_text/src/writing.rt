@@ -179,6 +179,9 @@ fn access_line(text: &mut Text, access: &Access)
         }
         Access::Pass(addr) => line_of_one(text, b"pass", u64::from(addr.0)),
         Access::Flush(addr) => line_of_one(text, b"flush", u64::from(addr.0)),
+        Access::Swap(addr, value) => {
+            line_of_two(text, b"swap", u64::from(addr.0), u64::from(*value))
+        }
     }
 }
 

@@ -25,13 +25,13 @@ fn shown(alloc: Global, text: &str) -> Result<Text, Fail> {
 fn setups_are_written(rt: HostRuntime) -> Result<(), Fail> {
     let written = shown(
         rt.alloc(),
-        "memory 1 #\narbiter fair\nword 0 9\nword 1 0\ntable b\nend\n\
-         board 1 number 5 table b plain choose first\n read 3\nend",
+        "memory 1 #\narbiter fair\nword 0 9\nword 1 0\ntable b version 2\nend\n\
+         board 1 number 5 table b plain choose first\n swap 3 1\nend",
     )?;
     assert_eq!(rt;
         written.bytes(),
-        b"memory 1\narbiter fair\nword 0 9\ntable b\nend\n\
-          board 1 number 5 table b plain choose first\nread 3\nend\n"
+        b"memory 1\narbiter fair\nword 0 9\ntable b version 2\nend\n\
+          board 1 number 5 table b plain choose first\nswap 3 1\nend\n"
             .as_slice()
     );
     Ok(())

@@ -9,7 +9,7 @@ use Rattle.class_relation.specs.Permitted.{is_permitted_local, is_permitted_answ
 use Rattle.class_relation.specs.Tables.{Table, locals_of, answers_of}
 use Rattle.table_check.specs.Reached.{is_reached}
 use Rattle.table_check.specs.declared.verdict.CellFault.TheVariants.{Missing}
-use Rattle.table_check.specs.Accepted.{InClass, faults, all_cells, failing_numbers, faults_at, forbidden_faults, missing_faults, is_needed, is_absent, is_missing}
+use Rattle.table_check.specs.Accepted.{InClass, faults, all_cells, failing_numbers, faults_at, forbidden_faults, missing_faults, is_judged, is_needed, is_absent, is_missing}
 use Rattle.table_check.specs.Paths.{Needed, AllPermitted, HasAlternative, KeepsToClass, ReachedGoesByPaths, ClassGoesByPaths}
 use Rattle.class_relation.proofs.Spelling.{both_true}
 use Rattle.table_check.proofs.Permitted.{permitted_locals, permitted_answers}
@@ -48,14 +48,20 @@ all_pass :
 all_pass test n [] h = refl
 all_pass test n (x ∷ xs) h = rw (h.0, all_pass test (n + 1) xs h.1) refl
 
+judged_or_not :
+    (judged : Bool) (cell : Cell) {numbers : List ℕ} → numbers ≡ []
+    → (if judged then faults_at cell numbers else []) ≡ []
+judged_or_not true cell none = ap (faults_at cell) none
+judged_or_not false cell none = refl
+
 nothing_forbidden : (table : Table) → KeepsToClass table → (cell : Cell) → forbidden_faults table cell ≡ []
 nothing_forbidden table keeps (Cell.Local state event) =
-    ap (faults_at (Cell.Local state event))
+    judged_or_not (is_judged table (Cell.Local state event)) (Cell.Local state event)
     (all_pass (is_permitted_local state event) 1 (locals_of table state event)
     (recursion_from_All (λ action. is_permitted_local state event action ≡ true) (locals_of table state event)
     (keeps.permitted (Cell.Local state event))))
 nothing_forbidden table keeps (Cell.Answer state event) =
-    ap (faults_at (Cell.Answer state event))
+    judged_or_not (is_judged table (Cell.Answer state event)) (Cell.Answer state event)
     (all_pass (is_permitted_answer state event) 1 (answers_of table state event)
     (recursion_from_All (λ action. is_permitted_answer state event action ≡ true) (answers_of table state event)
     (keeps.permitted (Cell.Answer state event))))
@@ -78,11 +84,12 @@ absent_none table (Cell.Local state event) h some = some (is_nil (locals_of tabl
 absent_none table (Cell.Answer state event) h some = some (is_nil (answers_of table state event) h)
 
 nothing_missing : (table : Table) → KeepsToClass table → (cell : Cell) → missing_faults table cell ≡ []
-nothing_missing table keeps cell = go (is_missing table cell) refl
+nothing_missing table keeps cell = go (is_judged table cell && is_missing table cell) refl
   where
-    go : (b : Bool) → is_missing table cell ≡ b → (if b then Missing cell ∷ [] else []) ≡ []
+    go : (b : Bool) → (is_judged table cell && is_missing table cell) ≡ b → (if b then Missing cell ∷ [] else []) ≡ []
     go true e =
-        let p = both_true (is_needed table cell) (is_absent table cell) e in
+        let missing = both_true (is_judged table cell) (is_missing table cell) e in
+        let p = both_true (is_needed table cell) (is_absent table cell) missing.1 in
         absurd (absent_none table cell p.1 (keeps.needed cell (tested_needed table cell p.0)))
     go false e = refl
 

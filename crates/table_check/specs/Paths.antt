@@ -38,6 +38,7 @@ abbrev pub ReachedGoesByPaths : Type 0
 ReachedGoesByPaths =
     (table : Table) (state : State) → IsTrue (is_reached table state) ↔ Reached table state
 
--- A table has no faults exactly where it keeps to the class.
+-- A table has no faults exactly where it keeps to the class. So it does in version 1 with its cells
+-- of swaps too, which are not judged.
 abbrev pub ClassGoesByPaths : Type 0
 ClassGoesByPaths = (table : Table) → InClass table ↔ KeepsToClass table

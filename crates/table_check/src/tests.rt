@@ -17,7 +17,7 @@ fn uncached(
     flush: Option<BusEvent>,
 ) -> Result<Table, Fail> {
     let name = Name::of(b"un").ok_or("name")?;
-    let mut table = Table::empty(alloc, name);
+    let mut table = Table::empty(alloc, name, 1);
     let cells: [(LocalEvent, State, Option<BusEvent>); 4] = [
         (Read, read.0, read.1),
         (Write, I, Some(Uwr)),
@@ -29,6 +29,9 @@ fn uncached(
             result: Outcome::Fixed(state),
             bus,
         };
+        if !table.says_local(event) || !table.says_bus(bus) {
+            return Err("a swap".into());
+        }
         if table.push_local(I, event, action).is_err() {
             return Err("memory".into());
         }

@@ -1,6 +1,6 @@
 -- A table by its cells has these cells, in states and events of any number.
-use Rattle.std.proofs.Common.{◌≡◌, ℕ, zero, suc, ◌+◌, ◌*◌, ◌<◌, List, [], ◌∷◌, ◌++◌, Some, map, length, get_or, refl, sym, ap, ◌∙◌, subst, arith, mul-suc}
-use Rattle.std.specs.Prelude.{slice_get}
+use Rattle.std.proofs.Common.{◌≡◌, Bool, true, ℕ, zero, suc, ◌+◌, ◌*◌, ◌<◌, List, [], ◌∷◌, ◌++◌, Some, map, length, get_or, refl, sym, ap, ◌∙◌, subst, arith, mul-suc}
+use Rattle.std.specs.Prelude.{slice_get, if◌then◌else◌}
 use Rattle.std.specs.List.{flat_map}
 use Rattle.std.proofs.lemmas.List.{get_or_append_left, get_or-append-add}
 use Rattle.bus_signals.specs.declared.BusEvent.{BusEvent}
@@ -13,8 +13,10 @@ use Rattle.moesi_state.specs.declared.State.TheVariants.{M, O, E, S, I}
 use Rattle.moesi_state.specs.States.{all_states, state_number}
 use Rattle.class_relation.specs.declared.LocalAction.{LocalAction}
 use Rattle.class_relation.specs.declared.SnoopAction.{SnoopAction}
-use Rattle.class_relation.specs.Tables.{locals_of, answers_of, local_events, bus_events}
-use Rattle.table_library.specs.Cells.{table_by}
+use Rattle.class_relation.specs.Versions.{is_local_said, is_answer_said}
+use Rattle.class_relation.specs.Tables.{said_locals, said_answers, locals_of, answers_of, local_events, bus_events}
+use Rattle.table_library.specs.Cells.{local_if_said, answer_if_said, table_by}
+use Rattle.table_library.proofs.SaidLeads.{said_is, answered_is}
 
 state_listed : (state : State) → slice_get all_states (state_number state) ≡ Some state
 state_listed M = refl
@@ -66,18 +68,41 @@ cell_at f events (x ∷ states) (suc k) n s e d here there =
     next : (w k n : ℕ) → w * suc k + n ≡ w + (w * k + n)
     next w k n = let times = mul-suc w k in omega (arith, times)
 
-pub local_cells :
-    (name : List ℕ) (f : State → LocalEvent → List LocalAction) (g : State → BusEvent → List SnoopAction)
-    (state : State) (event : LocalEvent) → locals_of (table_by name f g) state event ≡ f state event
-unfolding table_by
-local_cells name f g state event =
-    cell_at f local_events all_states (state_number state) (local_number event) state event [] (state_listed state)
-    (local_listed event)
+module _ (name : List ℕ) (version : ℕ) (f : State → LocalEvent → List LocalAction)
+    (g : State → BusEvent → List SnoopAction) where
+  pub by_version : (table_by name version f g).version ≡ version
+  unfolding table_by
+  by_version = refl
 
-pub answer_cells :
-    (name : List ℕ) (f : State → LocalEvent → List LocalAction) (g : State → BusEvent → List SnoopAction)
-    (state : State) (event : BusEvent) → answers_of (table_by name f g) state event ≡ g state event
-unfolding table_by
-answer_cells name f g state event =
-    cell_at g bus_events all_states (state_number state) (event_number event) state event [] (state_listed state)
-    (bus_listed event)
+  said_there :
+      (state : State) (event : LocalEvent)
+      → said_locals (table_by name version f g) state event ≡ local_if_said version event (f state event)
+  unfolding table_by
+  said_there state event =
+      cell_at (λ (s : State) (e : LocalEvent). local_if_said version e (f s e)) local_events all_states
+      (state_number state) (local_number event) state event [] (state_listed state) (local_listed event)
+
+  answered_there :
+      (state : State) (event : BusEvent)
+      → said_answers (table_by name version f g) state event ≡ answer_if_said version event (g state event)
+  unfolding table_by
+  answered_there state event =
+      cell_at (λ (s : State) (e : BusEvent). answer_if_said version e (g s e)) bus_events all_states
+      (state_number state) (event_number event) state event [] (state_listed state) (bus_listed event)
+
+  -- The cells that the version has.
+  pub local_cells :
+      (state : State) (event : LocalEvent) → is_local_said version event ≡ true
+      → locals_of (table_by name version f g) state event ≡ f state event
+  local_cells state event said =
+      said_is (table_by name version f g) state event (ap (λ (v : ℕ). is_local_said v event) by_version ∙ said)
+      ∙ said_there state event
+      ∙ ap (λ (b : Bool). if b then f state event else []) said
+
+  pub answer_cells :
+      (state : State) (event : BusEvent) → is_answer_said version event ≡ true
+      → answers_of (table_by name version f g) state event ≡ g state event
+  answer_cells state event said =
+      answered_is (table_by name version f g) state event (ap (λ (v : ℕ). is_answer_said v event) by_version ∙ said)
+      ∙ answered_there state event
+      ∙ ap (λ (b : Bool). if b then g state event else []) said

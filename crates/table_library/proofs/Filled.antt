@@ -1,5 +1,6 @@
 -- Tables that are filled cell by cell.
-use Rattle.std.proofs.Common.{◌≡◌, ℕ, zero, suc, ◌+◌, ◌<◌, Bool, cond, List, [], ◌∷◌, ◌++◌, length, get_or, set, take, filter, refl, sym, ap, ◌∙◌, append_assoc, drop}
+use Rattle.std.proofs.Common.{◌≡◌, ◌⊎◌, inl, inr, ℕ, zero, suc, ◌+◌, ◌<◌, Bool, true, false, cond, List, [], ◌∷◌, ◌++◌, length, get_or, set, take, filter, refl, sym, ap, subst, ◌∙◌, append_assoc, drop}
+use Rattle.std.specs.List.{list_all}
 use Rattle.std.proofs.lemmas.List.{append-nil, take_more, at_drop_more}
 use Rattle.std.proofs.lemmas.List.Elements.{filter_more}
 use Rattle.bus_signals.specs.declared.BusEvent.{BusEvent}
@@ -8,9 +9,10 @@ use Rattle.moesi_state.specs.declared.State.{State}
 use Rattle.moesi_state.specs.States.{all_states}
 use Rattle.class_relation.specs.declared.LocalAction.{LocalAction}
 use Rattle.class_relation.specs.declared.SnoopAction.{SnoopAction}
-use Rattle.class_relation.specs.Tables.{Table, empty_table, local_cell, answer_cell, local_events, bus_events}
+use Rattle.class_relation.specs.Versions.{is_local_said, is_answer_said, is_bus_said}
+use Rattle.class_relation.specs.Tables.{Table, HasCells, empty_table, said_locals, local_cell, answer_cell, local_events, bus_events}
 use Rattle.table_library.specs.Cells.{table_by}
-use Rattle.table_library.specs.Filling.{with_locals, with_answers, filled_locals, filled_answers, filled}
+use Rattle.table_library.specs.Filling.{with_locals, with_answers, with_said_locals, with_said_answers, filled_locals, filled_answers, filled}
 
 set_twice :
     {X : Type 0} (cells : List (List X)) (n : ℕ) (xs ys : List X)
@@ -57,6 +59,60 @@ answers_nothing table state event =
     ap (λ (cells : List (List SnoopAction)). record table { answers = cells })
     (set_nothing table.answers (answer_cell state event))
 
+-- ---- cells that the version has, and cells that it leaves out
+
+pub local_left_out :
+    (table : Table) (state : State) (event : LocalEvent) (xs : List LocalAction)
+    → is_local_said table.version event ≡ false → table ≡ with_said_locals table state event xs
+local_left_out table state event xs unsaid = rw unsaid refl
+
+pub local_filled :
+    (table new : Table) (state : State) (event : LocalEvent) (xs : List LocalAction)
+    → is_local_said table.version event ≡ true → new ≡ with_locals table state event xs
+    → new ≡ with_said_locals table state event xs
+local_filled table new state event xs said is = rw said is
+
+pub answer_left_out :
+    (table : Table) (state : State) (event : BusEvent) (xs : List SnoopAction)
+    → is_answer_said table.version event ≡ false → table ≡ with_said_answers table state event xs
+answer_left_out table state event xs unsaid = rw unsaid refl
+
+pub answer_filled :
+    (table new : Table) (state : State) (event : BusEvent) (xs : List SnoopAction)
+    → is_answer_said table.version event ≡ true → new ≡ with_answers table state event xs
+    → new ≡ with_said_answers table state event xs
+answer_filled table new state event xs said is = rw said is
+
+-- A table keeps its version as it is filled.
+pub locals_version :
+    (table new : Table) (state : State) (event : LocalEvent) (xs : List LocalAction)
+    → new ≡ with_locals table state event xs → new.version ≡ table.version
+unfolding with_locals
+locals_version table new state event xs is = ap (λ (t : Table). t.version) is
+
+pub answers_version :
+    (table new : Table) (state : State) (event : BusEvent) (xs : List SnoopAction)
+    → new ≡ with_answers table state event xs → new.version ≡ table.version
+unfolding with_answers
+answers_version table new state event xs is = ap (λ (t : Table). t.version) is
+
+-- What a table says names only transactions that a table of its version may name.
+pub known_cell :
+    (from table : Table) (state : State) (event : LocalEvent) (cell : List LocalAction) → HasCells from
+    → table.version ≡ from.version → cell ≡ said_locals from state event
+    → list_all (λ (a : LocalAction). is_bus_said table.version a.bus) cell ≡ true
+known_cell from table state event cell has same is =
+    subst (λ (xs : List LocalAction). list_all (λ (a : LocalAction). is_bus_said table.version a.bus) xs ≡ true)
+    (sym is)
+    (subst
+    (λ (v : ℕ). list_all (λ (a : LocalAction). is_bus_said v a.bus) (said_locals from state event) ≡ true)
+    (sym same) (has.version.buses state event))
+
+pub known_version :
+    (table : Table) (version : ℕ) → version ≡ table.version → HasCells table → (version ≡ 1) ⊎ (version ≡ 2)
+known_version table version is has =
+    subst (λ (v : ℕ). (v ≡ 1) ⊎ (v ≡ 2)) (sym is) (let keeps = has.version in keeps.known)
+
 -- ---- the loops over alternatives
 
 module _ {X : Type 0} (f : List X → Table) (add : Table → List X → Table)
@@ -87,7 +143,7 @@ module _ {X : Type 0} (f : List X → Table) (add : Table → List X → Table)
 pub locals_step :
     (locals : State → LocalEvent → List LocalAction) (state : State) (events : List LocalEvent) (i : ℕ)
     (d : LocalEvent) (before after whole : Table) → i < length events
-    → after ≡ with_locals before state (get_or events i d) (locals state (get_or events i d))
+    → after ≡ with_said_locals before state (get_or events i d) (locals state (get_or events i d))
     → filled_locals locals state before (drop i events) ≡ whole
     → filled_locals locals state after (drop (i + 1) events) ≡ whole
 locals_step locals state events i d before after whole within now was =
@@ -99,7 +155,7 @@ locals_step locals state events i d before after whole within now was =
 pub answers_step :
     (answers : State → BusEvent → List SnoopAction) (state : State) (events : List BusEvent) (i : ℕ)
     (d : BusEvent) (before after whole : Table) → i < length events
-    → after ≡ with_answers before state (get_or events i d) (answers state (get_or events i d))
+    → after ≡ with_said_answers before state (get_or events i d) (answers state (get_or events i d))
     → filled_answers answers state before (drop i events) ≡ whole
     → filled_answers answers state after (drop (i + 1) events) ≡ whole
 answers_step answers state events i d before after whole within now was =
@@ -122,8 +178,25 @@ states_step locals answers states i d before middle after whole within first sec
 
 -- ---- the whole table
 
-pub filled_empty :
+filled_older :
     (name : List ℕ) (f : State → LocalEvent → List LocalAction) (g : State → BusEvent → List SnoopAction)
-    → filled f g (empty_table name) all_states ≡ table_by name f g
+    → filled f g (empty_table name 1) all_states ≡ table_by name 1 f g
 unfolding with_locals with_answers table_by
-filled_empty name f g = refl
+filled_older name f g = refl
+
+filled_newer :
+    (name : List ℕ) (f : State → LocalEvent → List LocalAction) (g : State → BusEvent → List SnoopAction)
+    → filled f g (empty_table name 2) all_states ≡ table_by name 2 f g
+unfolding with_locals with_answers table_by
+filled_newer name f g = refl
+
+pub filled_empty :
+    (name : List ℕ) (version : ℕ) → (version ≡ 1) ⊎ (version ≡ 2)
+    → (f : State → LocalEvent → List LocalAction) (g : State → BusEvent → List SnoopAction)
+    → filled f g (empty_table name version) all_states ≡ table_by name version f g
+filled_empty name version (inl one) f g =
+    subst (λ (v : ℕ). filled f g (empty_table name v) all_states ≡ table_by name v f g) (sym one)
+    (filled_older name f g)
+filled_empty name version (inr two) f g =
+    subst (λ (v : ℕ). filled f g (empty_table name v) all_states ≡ table_by name v f g) (sym two)
+    (filled_newer name f g)

@@ -1,5 +1,5 @@
 -- What is left of a table has all that any part of it in the class needs.
-use Rattle.std.proofs.Common.{◌≡◌, ◌≢◌, ℕ, zero, suc, ◌<◌, Bool, true, false, cond, ◌&&◌, ◌⊎◌, inl, inr, List, [], ◌∷◌, length, get_or, filter, refl, sym, ◌∙◌, subst, arith}
+use Rattle.std.proofs.Common.{◌≡◌, ◌≢◌, ℕ, zero, suc, ◌<◌, Bool, true, false, cond, ◌&&◌, ◌⊎◌, inl, inr, List, [], ◌∷◌, length, get_or, filter, refl, sym, ap, ◌∙◌, subst, arith}
 use Rattle.std.specs.Prelude.{IsTrue, Contains}
 use Rattle.std.specs.List.{list_any}
 use Rattle.std.proofs.lemmas.List.Elements.{All-contains}
@@ -16,7 +16,8 @@ use Rattle.class_relation.specs.declared.LocalAction.{LocalAction}
 use Rattle.class_relation.specs.declared.SnoopAction.{SnoopAction}
 use Rattle.class_relation.specs.declared.Cell.{Cell}
 use Rattle.class_relation.specs.Permitted.{is_permitted_local, is_permitted_answer, does_come}
-use Rattle.class_relation.specs.Tables.{Table, locals_of, answers_of, local_events, bus_events}
+use Rattle.class_relation.specs.Versions.{is_local_said, is_answer_said}
+use Rattle.class_relation.specs.Tables.{Table, locals_of, answers_of}
 use Rattle.table_check.specs.Reached.{leads_locally, leads_by_answer, leads_to, IsPath, Reached, is_reached}
 use Rattle.table_check.specs.Accepted.{InClass, is_needed}
 use Rattle.table_check.specs.Paths.{KeepsToClass}
@@ -32,6 +33,7 @@ use Rattle.table_library.proofs.Sets.{in_filtered, in_order, is_state_set}
 use Rattle.table_library.proofs.Serving.{Within, local_fits_more, answer_fits_more, test_from_good}
 use Rattle.table_library.proofs.Keeping.{in_kept, kept_from}
 use Rattle.table_library.proofs.Parts.{part_local, part_answer}
+use Rattle.table_library.proofs.SaidLeads.{local_lead, answer_lead}
 use Rattle.table_library.proofs.NarrowedParts.{local_cell_is, answer_cell_is}
 
 -- ---- elements of lists
@@ -88,6 +90,13 @@ module _ (table part : Table) (is : IsPart part table) (accepted : InClass part)
   keeps : KeepsToClass part
   keeps = (class_by_paths part).0 accepted
 
+  -- The part has the cells of the table's version.
+  local_said : (event : LocalEvent) → is_local_said table.version event ≡ true → is_local_said part.version event ≡ true
+  local_said event said = ap (λ (v : ℕ). is_local_said v event) is.version ∙ said
+
+  answer_said : (event : BusEvent) → is_answer_said table.version event ≡ true → is_answer_said part.version event ≡ true
+  answer_said event said = ap (λ (v : ℕ). is_answer_said v event) is.version ∙ said
+
   -- The states that the part reaches.
   abbrev set : List State
   set = filter (is_reached part) all_states
@@ -138,16 +147,18 @@ module _ (table part : Table) (is : IsPart part table) (accepted : InClass part)
   set_good : Good table set
   set_good = record {
     locals =
-        λ s event here.
+        λ s event said here.
         let r = from_set s here in
         let a = some_of (locals_of part s event) (keeps.needed (Cell.Local s event) r) in
-        any_contained (fits_local set s event) (locals_of table s event) a.0 (is.locals s event a.0 a.1)
+        any_contained (fits_local set s event) (locals_of table s event) a.0
+        (is.locals s event a.0 (local_said event said) a.1)
         (local_fits s event a.0 r a.1);
     answers =
-        λ s event here held comes.
+        λ s event said here held comes.
         let r = from_set s here in
         let a = some_of (answers_of part s event) (keeps.needed (Cell.Answer s event) (r, held, comes)) in
-        any_contained (fits_answer set s event) (answers_of table s event) a.0 (is.answers s event a.0 a.1)
+        any_contained (fits_answer set s event) (answers_of table s event) a.0
+        (is.answers s event a.0 (answer_said event said) a.1)
         (answer_fits s event a.0 r a.1);
   }
 
@@ -181,38 +192,38 @@ module _ (table part : Table) (is : IsPart part table) (accepted : InClass part)
   fitting_leads_too s t r h = go (one_of (leads_locally part s t) (leads_by_answer part s t) h)
     where
       local :
-          (event : LocalEvent) → list_any (λ (a : LocalAction). may_settle a.result t) (locals_of part s event) ≡ true
+          (event : LocalEvent) → is_local_said part.version event ≡ true
+          → list_any (λ (a : LocalAction). may_settle a.result t) (locals_of part s event) ≡ true
           → leads_to fitting s t ≡ true
-      local event k =
+      local event said k =
           let a = which (λ (a : LocalAction). may_settle a.result t) (locals_of part s event) k in
           let c = in_filtered_cell (fits_local (kept table) s event) (locals_of table s event)
           (locals_of fitting s event) a.0
-          (part_local (fits_local (kept table)) (fits_answer (kept table)) table s event)
-          (is.locals s event a.0 a.1) (kept_local s event a.0 r a.1) in
+          (part_local (fits_local (kept table)) (fits_answer (kept table)) table s event
+          (ap (λ (v : ℕ). is_local_said v event) (sym is.version) ∙ said))
+          (is.locals s event a.0 said a.1) (kept_local s event a.0 r a.1) in
           either_left (leads_locally fitting s t) (leads_by_answer fitting s t)
           (any_local (λ event. list_any (λ (a : LocalAction). may_settle a.result t) (locals_of fitting s event)) event
           (any_contained (λ (a : LocalAction). may_settle a.result t) (locals_of fitting s event) a.0 c a.2))
 
       answer :
-          (event : BusEvent) → list_any (λ (a : SnoopAction). same_state a.result t) (answers_of part s event) ≡ true
+          (event : BusEvent) → is_answer_said part.version event ≡ true
+          → list_any (λ (a : SnoopAction). same_state a.result t) (answers_of part s event) ≡ true
           → leads_to fitting s t ≡ true
-      answer event k =
+      answer event said k =
           let a = which (λ (a : SnoopAction). same_state a.result t) (answers_of part s event) k in
           let c = in_filtered_cell (fits_answer (kept table) s event) (answers_of table s event)
           (answers_of fitting s event) a.0
-          (part_answer (fits_local (kept table)) (fits_answer (kept table)) table s event)
-          (is.answers s event a.0 a.1) (kept_answer s event a.0 r a.1) in
+          (part_answer (fits_local (kept table)) (fits_answer (kept table)) table s event
+          (ap (λ (v : ℕ). is_answer_said v event) (sym is.version) ∙ said))
+          (is.answers s event a.0 said a.1) (kept_answer s event a.0 r a.1) in
           either_right (leads_locally fitting s t) (leads_by_answer fitting s t)
           (any_bus (λ event. list_any (λ (a : SnoopAction). same_state a.result t) (answers_of fitting s event)) event
           (any_contained (λ (a : SnoopAction). same_state a.result t) (answers_of fitting s event) a.0 c a.2))
 
       go : (leads_locally part s t ≡ true) ⊎ (leads_by_answer part s t ≡ true) → leads_to fitting s t ≡ true
-      go (inl h) =
-          any_to (λ event. list_any (λ (a : LocalAction). may_settle a.result t) (locals_of part s event)) local_events
-          (leads_to fitting s t ≡ true) local h
-      go (inr h) =
-          any_to (λ event. list_any (λ (a : SnoopAction). same_state a.result t) (answers_of part s event)) bus_events
-          (leads_to fitting s t ≡ true) answer h
+      go (inl h) = local_lead part s t (leads_to fitting s t ≡ true) local h
+      go (inr h) = answer_lead part s t (leads_to fitting s t ≡ true) answer h
 
   fitting_path_too :
       (s last : State) (path : List State) → Reached part s → IsPath part s path last → IsPath fitting s path last
@@ -226,17 +237,19 @@ module _ (table part : Table) (is : IsPart part table) (accepted : InClass part)
   has_needs : HasNeeds (narrowed table) part
   has_needs = record {
     locals =
-        λ s event action r c.
+        λ s event action said r c.
         in_filtered_cell (λ a. fits_local (kept table) s event a && is_needed fitting (Cell.Local s event))
         (locals_of table s event) (locals_of (narrowed table) s event) action
-        (local_cell_is table (kept table) s event) (is.locals s event action c)
+        (local_cell_is table (kept table) s event (ap (λ (v : ℕ). is_local_said v event) (sym is.version) ∙ said))
+        (is.locals s event action said c)
         (both (fits_local (kept table) s event action) (is_needed fitting (Cell.Local s event))
         (kept_local s event action r c) (reached-test fitting s (reached_too s r)));
     answers =
-        λ s event action r held comes c.
+        λ s event action said r held comes c.
         in_filtered_cell (λ a. fits_answer (kept table) s event a && is_needed fitting (Cell.Answer s event))
         (answers_of table s event) (answers_of (narrowed table) s event) action
-        (answer_cell_is table (kept table) s event) (is.answers s event action c)
+        (answer_cell_is table (kept table) s event (ap (λ (v : ℕ). is_answer_said v event) (sym is.version) ∙ said))
+        (is.answers s event action said c)
         (both (fits_answer (kept table) s event action) (is_needed fitting (Cell.Answer s event))
         (kept_answer s event action r c)
         (both (is_reached fitting s) (holds s && does_come s event) (reached-test fitting s (reached_too s r))

@@ -1,4 +1,6 @@
 pub mod Passing
+pub mod SaidLeads
+pub mod SaidClass
 pub mod Sets
 pub mod Serving
 pub mod Keeping

@@ -1,5 +1,5 @@
 -- A narrowed table is in the class.
-use Rattle.std.proofs.Common.{◌≡◌, Bool, true, false, ◌&&◌, ◌⊎◌, inl, inr, List, [], ◌∷◌, Some, None, filter, sym, ap, ◌∙◌, subst}
+use Rattle.std.proofs.Common.{◌≡◌, ℕ, Bool, true, false, ◌&&◌, ◌⊎◌, inl, inr, List, [], ◌∷◌, Some, None, filter, sym, ap, ◌∙◌, subst}
 use Rattle.std.specs.Prelude.{IsTrue, All, if◌then◌else◌}
 use Rattle.std.specs.List.{list_any}
 use Rattle.std.proofs.lemmas.List.Elements.{All-weaker, filter_passes}
@@ -15,13 +15,13 @@ use Rattle.class_relation.specs.declared.LocalAction.{LocalAction}
 use Rattle.class_relation.specs.declared.SnoopAction.{SnoopAction}
 use Rattle.class_relation.specs.declared.Cell.{Cell}
 use Rattle.class_relation.specs.Permitted.{is_permitted_local, is_permitted_answer, does_come}
-use Rattle.class_relation.specs.Tables.{Table, locals_of, answers_of, local_events, bus_events}
+use Rattle.class_relation.specs.Versions.{is_local_said, is_answer_said}
+use Rattle.class_relation.specs.Tables.{Table, locals_of, answers_of}
 use Rattle.class_relation.proofs.Spelling.{both_true, same_state-eq}
 use Rattle.table_check.specs.Reached.{leads_locally, leads_by_answer, leads_to, IsPath, Reached, is_reached}
-use Rattle.table_check.specs.Accepted.{InClass, is_needed}
+use Rattle.table_check.specs.Accepted.{InClass, is_judged, is_needed}
 use Rattle.table_check.specs.Paths.{Needed, AllPermitted, HasAlternative}
 use Rattle.table_check.proofs.Reaching.{reached-test}
-use Rattle.table_check.proofs.ByPaths.{class_by_paths}
 use Rattle.table_library.specs.StateSets.{is_in}
 use Rattle.table_library.specs.Fitting.{stays_in, fits_local, fits_answer, Good}
 use Rattle.table_library.specs.Kept.{has_good_set, kept}
@@ -29,7 +29,8 @@ use Rattle.table_library.specs.Narrow.{fitting_part, needed_part, narrowed, narr
 use Rattle.table_library.specs.Greatest.{NarrowedIsInClass}
 use Rattle.table_library.proofs.Passing.{both, one_of, any_more, any_to, filter_some, filter_of_filter}
 use Rattle.table_library.proofs.Keeping.{left, good_set_is_told, left_is_kept, kept_good}
-use Rattle.table_library.proofs.Parts.{part_local, part_answer, part_leads_locally, part_leads_by_answer, part_reached}
+use Rattle.table_library.proofs.Parts.{part_version, part_local, part_answer, part_lead_local, part_lead_answer, part_reached}
+use Rattle.table_library.proofs.SaidClass.{class_from_said}
 
 -- A state to which an outcome within a set can settle is in it.
 settles_in :
@@ -72,19 +73,13 @@ module _ (table : Table) (set : List State) where
           ⊎ (leads_by_answer (fitting_part table set) s t ≡ true)
           → is_in set t ≡ true
       go (inl h) =
-          any_to
-          (λ event. list_any (λ (a : LocalAction). fits_local set s event a && may_settle a.result t)
-          (locals_of table s event)) local_events (is_in set t ≡ true)
-          (λ event. any_to (λ (a : LocalAction). fits_local set s event a && may_settle a.result t)
-          (locals_of table s event) (is_in set t ≡ true) (local event))
-          (part_leads_locally (fits_local set) (fits_answer set) table s t h)
+          part_lead_local (fits_local set) (fits_answer set) table s t (is_in set t ≡ true)
+          (λ event said. any_to (λ (a : LocalAction). fits_local set s event a && may_settle a.result t)
+          (locals_of table s event) (is_in set t ≡ true) (local event)) h
       go (inr h) =
-          any_to
-          (λ event. list_any (λ (a : SnoopAction). fits_answer set s event a && same_state a.result t)
-          (answers_of table s event)) bus_events (is_in set t ≡ true)
-          (λ event. any_to (λ (a : SnoopAction). fits_answer set s event a && same_state a.result t)
-          (answers_of table s event) (is_in set t ≡ true) (answer event))
-          (part_leads_by_answer (fits_local set) (fits_answer set) table s t h)
+          part_lead_answer (fits_local set) (fits_answer set) table s t (is_in set t ≡ true)
+          (λ event said. any_to (λ (a : SnoopAction). fits_answer set s event a && same_state a.result t)
+          (answers_of table s event) (is_in set t ≡ true) (answer event)) h
 
   fitting_path :
       (s last : State) (path : List State) → IsPath (fitting_part table set) s path last → is_in set s ≡ true
@@ -102,46 +97,64 @@ module _ (table : Table) (set : List State) where
   abbrev part : Table
   part = needed_part fitting
 
-  -- A cell of the needed part of what fits.
+  -- The parts have the table's version.
+  fitting_version : fitting.version ≡ table.version
+  fitting_version = part_version (fits_local set) (fits_answer set) table
+
+  pub version_is : part.version ≡ table.version
+  version_is =
+      part_version (λ state event action. is_needed fitting (Cell.Local state event))
+      (λ state event action. is_needed fitting (Cell.Answer state event)) fitting
+      ∙ fitting_version
+
+  local_said : (event : LocalEvent) → is_local_said part.version event ≡ true → is_local_said table.version event ≡ true
+  local_said event said = ap (λ (v : ℕ). is_local_said v event) (sym version_is) ∙ said
+
+  answer_said : (event : BusEvent) → is_answer_said part.version event ≡ true → is_answer_said table.version event ≡ true
+  answer_said event said = ap (λ (v : ℕ). is_answer_said v event) (sym version_is) ∙ said
+
+  -- A cell of the needed part of what fits, where the version has it.
   pub local_cell_is :
-      (state : State) (event : LocalEvent)
+      (state : State) (event : LocalEvent) → is_local_said table.version event ≡ true
       → locals_of part state event
       ≡ filter (λ action. fits_local set state event action && is_needed fitting (Cell.Local state event))
       (locals_of table state event)
-  local_cell_is state event =
+  local_cell_is state event said =
       part_local (λ state event action. is_needed fitting (Cell.Local state event))
       (λ state event action. is_needed fitting (Cell.Answer state event)) fitting state event
+      (ap (λ (v : ℕ). is_local_said v event) fitting_version ∙ said)
       ∙ ap (filter (λ action. is_needed fitting (Cell.Local state event)))
-      (part_local (fits_local set) (fits_answer set) table state event)
+      (part_local (fits_local set) (fits_answer set) table state event said)
       ∙ filter_of_filter (fits_local set state event) (λ action. is_needed fitting (Cell.Local state event))
       (locals_of table state event)
 
   pub answer_cell_is :
-      (state : State) (event : BusEvent)
+      (state : State) (event : BusEvent) → is_answer_said table.version event ≡ true
       → answers_of part state event
       ≡ filter (λ action. fits_answer set state event action && is_needed fitting (Cell.Answer state event))
       (answers_of table state event)
-  answer_cell_is state event =
+  answer_cell_is state event said =
       part_answer (λ state event action. is_needed fitting (Cell.Local state event))
       (λ state event action. is_needed fitting (Cell.Answer state event)) fitting state event
+      (ap (λ (v : ℕ). is_answer_said v event) fitting_version ∙ said)
       ∙ ap (filter (λ action. is_needed fitting (Cell.Answer state event)))
-      (part_answer (fits_local set) (fits_answer set) table state event)
+      (part_answer (fits_local set) (fits_answer set) table state event said)
       ∙ filter_of_filter (fits_answer set state event) (λ action. is_needed fitting (Cell.Answer state event))
       (answers_of table state event)
 
-  part_permitted : (cell : Cell) → AllPermitted part cell
-  part_permitted (Cell.Local state event) =
+  part_permitted : (cell : Cell) → is_judged part cell ≡ true → AllPermitted part cell
+  part_permitted (Cell.Local state event) judged =
       let test : LocalAction → Bool =
       λ action. fits_local set state event action && is_needed fitting (Cell.Local state event) in
-      subst (All (λ action. IsTrue (is_permitted_local state event action))) (sym (local_cell_is state event))
+      subst (All (λ action. IsTrue (is_permitted_local state event action))) (sym (local_cell_is state event (local_said event judged)))
       (All-weaker (λ action. test action ≡ true) (λ action. IsTrue (is_permitted_local state event action))
       (λ action k. (both_true (is_permitted_local state event action) (stays_in set action.result)
       (both_true (fits_local set state event action) (is_needed fitting (Cell.Local state event)) k).0).0)
       (filter test (locals_of table state event)) (filter_passes test (locals_of table state event)))
-  part_permitted (Cell.Answer state event) =
+  part_permitted (Cell.Answer state event) judged =
       let test : SnoopAction → Bool =
       λ action. fits_answer set state event action && is_needed fitting (Cell.Answer state event) in
-      subst (All (λ action. IsTrue (is_permitted_answer state event action))) (sym (answer_cell_is state event))
+      subst (All (λ action. IsTrue (is_permitted_answer state event action))) (sym (answer_cell_is state event (answer_said event judged)))
       (All-weaker (λ action. test action ≡ true) (λ action. IsTrue (is_permitted_answer state event action))
       (λ action k. (both_true (is_permitted_answer state event action) (is_in set action.result)
       (both_true (fits_answer set state event action) (is_needed fitting (Cell.Answer state event)) k).0).0)
@@ -154,30 +167,33 @@ module _ (table : Table) (set : List State) where
 
   -- A needed cell of a good set has an alternative.
   part_needed :
-      is_in set I ≡ true → Good table set → (cell : Cell) → Needed part cell → HasAlternative part cell
-  part_needed first good (Cell.Local state event) needed =
+      is_in set I ≡ true → Good table set → (cell : Cell) → is_judged part cell ≡ true → Needed part cell
+      → HasAlternative part cell
+  part_needed first good (Cell.Local state event) judged needed =
       λ none.
+      let said = local_said event judged in
       let there = reached_there state needed in
       let is : is_needed fitting (Cell.Local state event) ≡ true = reached-test fitting state there in
-      let some = good.locals state event (fitting_reached first state there) in
+      let some = good.locals state event said (fitting_reached first state there) in
       let wrong : false ≡ true = filter_some
       (λ action. fits_local set state event action && is_needed fitting (Cell.Local state event))
-      (locals_of table state event) (sym (local_cell_is state event) ∙ none)
+      (locals_of table state event) (sym (local_cell_is state event said) ∙ none)
       (any_more (fits_local set state event)
       (λ action. fits_local set state event action && is_needed fitting (Cell.Local state event))
       (locals_of table state event)
       (λ action k. both (fits_local set state event action) (is_needed fitting (Cell.Local state event)) k is) some) in
       cc
-  part_needed first good (Cell.Answer state event) needed =
+  part_needed first good (Cell.Answer state event) judged needed =
       λ none.
+      let said = answer_said event judged in
       let there = reached_there state needed.0 in
       let is : is_needed fitting (Cell.Answer state event) ≡ true =
       both (is_reached fitting state) (holds state && does_come state event) (reached-test fitting state there)
       (both (holds state) (does_come state event) needed.1 needed.2) in
-      let some = good.answers state event (fitting_reached first state there) needed.1 needed.2 in
+      let some = good.answers state event said (fitting_reached first state there) needed.1 needed.2 in
       let wrong : false ≡ true = filter_some
       (λ action. fits_answer set state event action && is_needed fitting (Cell.Answer state event))
-      (answers_of table state event) (sym (answer_cell_is state event) ∙ none)
+      (answers_of table state event) (sym (answer_cell_is state event said) ∙ none)
       (any_more (fits_answer set state event)
       (λ action. fits_answer set state event action && is_needed fitting (Cell.Answer state event))
       (answers_of table state event)
@@ -186,8 +202,7 @@ module _ (table : Table) (set : List State) where
       cc
 
   part_in_class : is_in set I ≡ true → Good table set → InClass part
-  part_in_class first good =
-      (class_by_paths part).1 (record { permitted = part_permitted; needed = part_needed first good })
+  part_in_class first good = class_from_said part part_permitted (part_needed first good)
 
 -- ---- the law, and the answers of `narrow`
 

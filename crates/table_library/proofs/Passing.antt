@@ -54,6 +54,14 @@ all_more p q (x ∷ xs) f h =
     let parts = both_true (p x) (list_all p xs) h in
     both (q x) (list_all q xs) (f x parts.0) (all_more p q xs f parts.1)
 
+pub all_at :
+    {X : Type 0} (p : X → Bool) (xs : List X) (k : ℕ) (d : X) → list_all p xs ≡ true → k < length xs
+    → p (get_or xs k d) ≡ true
+all_at p [] k d h within = absurd (omega (arith, within))
+all_at p (x ∷ xs) zero d h within = (both_true (p x) (list_all p xs) h).0
+all_at p (x ∷ xs) (suc k) d h within =
+    all_at p xs k d (both_true (p x) (list_all p xs) h).1 (omega (arith, within))
+
 pub all_every : {X : Type 0} (p : X → Bool) (xs : List X) → ((x : X) → p x ≡ true) → list_all p xs ≡ true
 all_every p [] f = refl
 all_every p (x ∷ xs) f = both (p x) (list_all p xs) (f x) (all_every p xs f)

@@ -1,6 +1,6 @@
 -- The kept states are the greatest good set, and what they leave of a table is its greatest part in
 -- the class.
-use Rattle.std.specs.Prelude.{◌↔◌, List, IsTrue, All, Contains}
+use Rattle.std.specs.Prelude.{◌≡◌, ◌↔◌, List, IsTrue, All, Contains}
 use Rattle.bus_signals.specs.declared.BusEvent.{BusEvent}
 use Rattle.bus_signals.specs.declared.LocalEvent.{LocalEvent}
 use Rattle.moesi_state.specs.declared.State.{State}
@@ -8,6 +8,7 @@ use Rattle.moesi_state.specs.States.{holds}
 use Rattle.class_relation.specs.declared.LocalAction.{LocalAction}
 use Rattle.class_relation.specs.declared.SnoopAction.{SnoopAction}
 use Rattle.class_relation.specs.Permitted.{does_come}
+use Rattle.class_relation.specs.Versions.{is_local_said, is_answer_said}
 use Rattle.class_relation.specs.Tables.{Table, locals_of, answers_of}
 use Rattle.table_check.specs.Reached.{Reached}
 use Rattle.table_check.specs.Accepted.{InClass}
@@ -40,25 +41,31 @@ KeptIsGreatest =
 abbrev pub NarrowedIsInClass : Type 0
 NarrowedIsInClass = (table : Table) → IsTrue (has_good_set table) → InClass (narrowed table)
 
--- A part of a table: each alternative of each of its cells is in the table's cell.
+-- A part of a table: it has the table's version, and each alternative of each of its judged cells
+-- is in the table's cell.
 pub record IsPart (part table : Table) : Type 0 where
+  pub version : part.version ≡ table.version
   pub locals :
       (state : State) (event : LocalEvent) (action : LocalAction)
+      → IsTrue (is_local_said part.version event)
       → Contains (locals_of part state event) action → Contains (locals_of table state event) action
   pub answers :
       (state : State) (event : BusEvent) (action : SnoopAction)
+      → IsTrue (is_answer_said part.version event)
       → Contains (answers_of part state event) action
       → Contains (answers_of table state event) action
 
--- A table has what a part of it needs: each alternative of the cells of the states that the part
--- reaches, where the event is local, or comes to a board that holds a copy.
+-- A table has what a part of it needs: each alternative of the judged cells of the states that the
+-- part reaches, where the event is local, or comes to a board that holds a copy.
 pub record HasNeeds (table part : Table) : Type 0 where
   pub locals :
-      (state : State) (event : LocalEvent) (action : LocalAction) → Reached part state
+      (state : State) (event : LocalEvent) (action : LocalAction)
+      → IsTrue (is_local_said part.version event) → Reached part state
       → Contains (locals_of part state event) action → Contains (locals_of table state event) action
   pub answers :
-      (state : State) (event : BusEvent) (action : SnoopAction) → Reached part state
-      → IsTrue (holds state) → IsTrue (does_come state event)
+      (state : State) (event : BusEvent) (action : SnoopAction)
+      → IsTrue (is_answer_said part.version event) → Reached part state → IsTrue (holds state)
+      → IsTrue (does_come state event)
       → Contains (answers_of part state event) action
       → Contains (answers_of table state event) action
 

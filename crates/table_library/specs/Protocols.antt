@@ -1,4 +1,5 @@
--- The tables of the library.
+-- The tables of the library. All are of version 1: what they do on swaps follows from their other
+-- cells.
 use Rattle.std.specs.Prelude.{List, [], ◌∷◌, ℕ, Option, find, slice_set, codes}
 use Rattle.std.specs.Str.{bytes_eq}
 use Rattle.bus_signals.specs.declared.BusEvent.{BusEvent}
@@ -24,6 +25,7 @@ abbrev pub write_through_broadcast : Table
 write_through_broadcast =
     record {
       name = codes "wb";
+      version = 1;
       locals = write_through_locals Ubw;
       answers = write_through.answers;
     }
@@ -32,6 +34,7 @@ write_through_broadcast =
 abbrev pub exclusive_copy_back : Table
 exclusive_copy_back = record {
   name = codes "ex";
+  version = 1;
   locals = copy_back.locals;
   answers =
       slice_set (slice_set copy_back.answers (answer_cell E Rd) (quiet I)) (answer_cell S Rd)

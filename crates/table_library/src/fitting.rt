@@ -1,11 +1,11 @@
 //! What fits a set of states, and the states that are kept.
 
-ghost use Rattle.std.specs.Prelude.{◌≡◌, not, ◌&&◌, ◌||◌, length, filter};
+ghost use Rattle.std.specs.Prelude.{◌≡◌, ◌&&◌, length, filter};
 ghost use Rattle.std.specs.List.{list_all, list_any};
 ghost use Rattle.moesi_state.specs.States.{all_states};
 ghost use Rattle.class_relation.specs.Tables.{local_events, bus_events};
 ghost use Rattle.table_library.specs.StateSets.{is_in};
-ghost use Rattle.table_library.specs.Fitting.{stays_in as outcome_stays_in, fits_local as local_fits, fits_answer as answer_fits, is_asked as is_asked_of, has_local_fit, has_answer_fit, is_served as serves};
+ghost use Rattle.table_library.specs.Fitting.{stays_in as outcome_stays_in, fits_local as local_fits, fits_answer as answer_fits, fits_where_local, fits_where_asked, is_served as serves};
 ghost use Rattle.table_library.specs.Kept.{served_states as states_served, left_after};
 
 use crate::answering::is_asked;
@@ -64,25 +64,27 @@ fn some_answer_fits(set: &StateSet, state: State, event: BusEvent, answers: &[Sn
         .any(|answer| fits_answer(set, state, event, answer))
 }
 
-/// Whether each local cell of a state has an alternative that fits the set.
+/// Whether each judged local cell of a state has an alternative that fits the set.
 fn local_cells_fit(table: &Table, set: &StateSet, state: State) -> bool
-    ensures { result ≡ list_all (has_local_fit table.now set.now state) local_events }
+    ensures { result ≡ list_all (fits_where_local table.now set.now state) local_events }
 {
-    LOCAL_EVENTS.iter().all(|event| some_local_fits(set, state, *event, table.local(state, *event)))
-}
-
-/// Whether each answer cell of a state that can be asked has an alternative that fits the set.
-fn answer_cells_fit(table: &Table, set: &StateSet, state: State) -> bool
-    ensures { result ≡ list_all
-        (λ event. not (is_asked_of state event) || has_answer_fit table.now set.now state event)
-        bus_events }
-{
-    BUS_EVENTS.iter().all(|event| {
-        !is_asked(state, *event) || some_answer_fits(set, state, *event, table.snoop(state, *event))
+    LOCAL_EVENTS.iter().all(|event| {
+        !table.says_local(*event) || some_local_fits(set, state, *event, table.local(state, *event))
     })
 }
 
-/// Whether each cell of a state that can be used has an alternative that fits the set.
+/// Whether each judged answer cell of a state that can be asked has an alternative that fits the
+/// set.
+fn answer_cells_fit(table: &Table, set: &StateSet, state: State) -> bool
+    ensures { result ≡ list_all (fits_where_asked table.now set.now state) bus_events }
+{
+    BUS_EVENTS.iter().all(|event| {
+        !(table.says_answer(*event) && is_asked(state, *event))
+            || some_answer_fits(set, state, *event, table.snoop(state, *event))
+    })
+}
+
+/// Whether each judged cell of a state that can be used has an alternative that fits the set.
 #[tactic(auto, unfolding(crate::specs::Fitting::is_served))]
 fn is_served(table: &Table, set: &StateSet, state: State) -> bool
     ensures { result ≡ serves table.now set.now state }

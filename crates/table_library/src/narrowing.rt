@@ -1,10 +1,12 @@
 //! The largest part of a table that is in the class.
 
-ghost use Rattle.std.specs.Prelude.{◌≡◌, ◌∷◌, [], true, IfOk, OnOk, filter, length, if◌then◌else◌};
+ghost use Rattle.std.specs.Prelude.{◌≡◌, ◌∷◌, [], true, IsTrue, IfOk, OnOk, filter, length, if◌then◌else◌};
+ghost use Rattle.std.specs.List.{list_all};
 ghost use Rattle.moesi_state.specs.declared.State.{State};
 ghost use Rattle.moesi_state.specs.States.{all_states};
 ghost use Rattle.class_relation.specs.declared.Cell.{Cell};
-ghost use Rattle.class_relation.specs.Tables.{locals_of, answers_of};
+ghost use Rattle.class_relation.specs.Versions.{is_local_said, is_answer_said, is_bus_said};
+ghost use Rattle.class_relation.specs.Tables.{said_locals, said_answers};
 ghost use Rattle.table_check.specs.Reached.{is_reached as is_reached_state};
 ghost use Rattle.table_check.specs.Accepted.{InClass, is_needed as is_needed_cell};
 ghost use Rattle.table_library.specs.StateSets.{is_in};
@@ -24,7 +26,7 @@ use no_memory::NoMemory;
 use std::alloc::Global;
 use table_check::{AcceptFault, Accepted, accept, reaches};
 
-/// The cells of a table, with the alternatives that fit a set of states.
+/// The cells that a table says, with the alternatives that fit a set of states.
 #[derive(Clone, Copy)]
 struct Fitting<'a> {
     table: &'a Table,
@@ -32,11 +34,13 @@ struct Fitting<'a> {
 }
 
 impl<'a> Cells for Fitting<'a> {
+    ghost version = { λ cells. cells.table.now.version };
+
     ghost locals = { λ cells state event. filter (local_fits cells.set.now state event)
-        (locals_of cells.table.now state event) };
+        (said_locals cells.table.now state event) };
 
     ghost answers = { λ cells state event. filter (answer_fits cells.set.now state event)
-        (answers_of cells.table.now state event) };
+        (said_answers cells.table.now state event) };
 
     fn add_local(
         &self,
@@ -49,7 +53,7 @@ impl<'a> Cells for Fitting<'a> {
             self.set,
             state,
             event,
-            self.table.local(state, event),
+            self.table.said_local(state, event),
         )
     }
 
@@ -59,7 +63,7 @@ impl<'a> Cells for Fitting<'a> {
             self.set,
             state,
             event,
-            self.table.snoop(state, event),
+            self.table.said_snoop(state, event),
         )
     }
 }
@@ -73,6 +77,8 @@ fn add_local_if(
     event: LocalEvent,
     action: LocalAction,
 ) -> Result<(), NoMemory>
+    requires said { IsTrue (is_local_said table.old.version event) }
+    requires known { IsTrue (is_bus_said table.old.version action.bus) }
     ensures { OnOk result (table.new
         ≡ with_locals table.old state event (if fits then action ∷ [] else [])) }
 {
@@ -92,6 +98,7 @@ fn add_answer_if(
     event: BusEvent,
     answer: SnoopAction,
 ) -> Result<(), NoMemory>
+    requires { IsTrue (is_answer_said table.old.version event) }
     ensures { OnOk result (table.new
         ≡ with_answers table.old state event (if fits then answer ∷ [] else [])) }
 {
@@ -110,6 +117,8 @@ fn add_fitting_locals(
     event: LocalEvent,
     actions: &[LocalAction],
 ) -> Result<(), NoMemory>
+    requires said { IsTrue (is_local_said table.old.version event) }
+    requires known { IsTrue (list_all (λ a. is_bus_said table.old.version a.bus) actions.now) }
     ensures { OnOk result (table.new
         ≡ with_locals table.old state event (filter (local_fits set.now state event) actions.now)) }
 {
@@ -128,6 +137,7 @@ fn add_fitting_answers(
     event: BusEvent,
     answers: &[SnoopAction],
 ) -> Result<(), NoMemory>
+    requires { IsTrue (is_answer_said table.old.version event) }
     ensures { OnOk result (table.new
         ≡ with_answers table.old state event
         (filter (answer_fits set.now state event) answers.now)) }
@@ -143,23 +153,30 @@ fn add_fitting_answers(
 fn fitting_part(alloc: Global, table: &Table, set: &StateSet) -> Result<Table, NoMemory>
     ensures { IfOk result (λ part. part ≡ part_that_fits table.now set.now) }
 {
-    filled_table(alloc, table.name(), &Fitting { table, set })
+    filled_table(
+        alloc,
+        table.name(),
+        table.version(),
+        &Fitting { table, set },
+    )
 }
 
-/// The cells of a table that it needs.
+/// The cells that a table says and needs.
 #[derive(Clone, Copy)]
 struct Needed<'a> {
     table: &'a Table,
 }
 
 impl<'a> Cells for Needed<'a> {
+    ghost version = { λ cells. cells.table.now.version };
+
     ghost locals = { λ cells state event. filter
         (λ action. is_needed_cell cells.table.now (Cell.Local state event))
-        (locals_of cells.table.now state event) };
+        (said_locals cells.table.now state event) };
 
     ghost answers = { λ cells state event. filter
         (λ action. is_needed_cell cells.table.now (Cell.Answer state event))
-        (answers_of cells.table.now state event) };
+        (said_answers cells.table.now state event) };
 
     fn add_local(
         &self,
@@ -168,13 +185,13 @@ impl<'a> Cells for Needed<'a> {
         event: LocalEvent,
     ) -> Result<(), NoMemory> {
         let needed = is_needed(self.table, Cell::Local(state, event));
-        let actions = self.table.local(state, event);
+        let actions = self.table.said_local(state, event);
         add_locals_if(needed, table, state, event, actions)
     }
 
     fn add_answer(&self, table: &mut Table, state: State, event: BusEvent) -> Result<(), NoMemory> {
         let needed = is_needed(self.table, Cell::Answer(state, event));
-        let answers = self.table.snoop(state, event);
+        let answers = self.table.said_snoop(state, event);
         add_answers_if(needed, table, state, event, answers)
     }
 }
@@ -205,6 +222,8 @@ fn add_locals_if(
     event: LocalEvent,
     actions: &[LocalAction],
 ) -> Result<(), NoMemory>
+    requires said { IsTrue (is_local_said table.old.version event) }
+    requires known { IsTrue (list_all (λ a. is_bus_said table.old.version a.bus) actions.now) }
     ensures { OnOk result (table.new
         ≡ with_locals table.old state event (filter (λ action. needed) actions.now)) }
 {
@@ -222,6 +241,7 @@ fn add_answers_if(
     event: BusEvent,
     answers: &[SnoopAction],
 ) -> Result<(), NoMemory>
+    requires { IsTrue (is_answer_said table.old.version event) }
     ensures { OnOk result (table.new
         ≡ with_answers table.old state event (filter (λ answer. needed) answers.now)) }
 {
@@ -235,7 +255,7 @@ fn add_answers_if(
 fn needed_part(alloc: Global, table: &Table) -> Result<Table, NoMemory>
     ensures { IfOk result (λ part. part ≡ part_that_is_needed table.now) }
 {
-    filled_table(alloc, table.name(), &Needed { table })
+    filled_table(alloc, table.name(), table.version(), &Needed { table })
 }
 
 /// The needed part of what fits the states that are left, if these are a

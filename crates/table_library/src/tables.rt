@@ -1,8 +1,9 @@
 //! The tables of the library.
 
-ghost use Rattle.std.specs.Prelude.{◌≡◌, IfOk, OnOk};
+ghost use Rattle.std.specs.Prelude.{◌≡◌, IsTrue, IfSome, IfOk, OnOk};
 ghost use Rattle.std.specs.Option.{option_to_list};
-ghost use Rattle.class_relation.specs.Tables.{locals_of, answers_of};
+ghost use Rattle.class_relation.specs.Versions.{is_local_said, is_answer_said, is_bus_said};
+ghost use Rattle.class_relation.specs.Tables.{said_locals, answers_of};
 ghost use Rattle.table_check.specs.Accepted.{InClass};
 ghost use Rattle.table_library.specs.Filling.{with_locals, with_answers};
 ghost use Rattle.table_library.specs.Protocols.{protocol_table};
@@ -26,6 +27,8 @@ fn push_local_if_some(
     event: LocalEvent,
     action: Option<LocalAction>,
 ) -> Result<(), NoMemory>
+    requires said { IsTrue (is_local_said table.old.version event) }
+    requires known { IfSome action (λ a. IsTrue (is_bus_said table.old.version a.bus)) }
     ensures { OnOk result (table.new
         ≡ with_locals table.old state event (option_to_list action)) }
 {
@@ -43,6 +46,7 @@ fn push_answer_if_some(
     event: BusEvent,
     answer: Option<SnoopAction>,
 ) -> Result<(), NoMemory>
+    requires { IsTrue (is_answer_said table.old.version event) }
     ensures { OnOk result (table.new
         ≡ with_answers table.old state event (option_to_list answer)) }
 {
@@ -53,7 +57,9 @@ fn push_answer_if_some(
 }
 
 impl Cells for Kind {
-    ghost locals = { λ kind. locals_of (protocol_table kind) };
+    ghost version = { λ kind. 1 };
+
+    ghost locals = { λ kind. said_locals (protocol_table kind) };
 
     ghost answers = { λ kind. answers_of (protocol_table kind) };
 
@@ -87,7 +93,7 @@ fn name_of(kind: Kind) -> Name
 pub fn table_of(alloc: Global, kind: Kind) -> Result<Table, NoMemory>
     ensures { IfOk result (λ table. table ≡ protocol_table kind) }
 {
-    filled_table(alloc, name_of(kind), &kind)
+    filled_table(alloc, name_of(kind), 1, &kind)
 }
 
 /// The table of a protocol, which is in the class.

@@ -2,16 +2,16 @@
 
 use super::*;
 use bus_signals::{Access, Addr, BUS_EVENTS, BoardNo, BusEvent, LOCAL_EVENTS, LineNo, LocalEvent};
-use class_relation::{LocalAction, Name, Table};
+use class_relation::{LocalAction, Name, SnoopAction, Table};
 use fb_text::Text;
 use journal::{Answers, Carried, Connected, Done, Event, Places, Source, States, Takers};
 use moesi_state::{Outcome, STATES, State};
 use std::alloc::Global;
 use std::test::*;
 
-/// Whether two tables have the same name and cells.
+/// Whether two tables have the same name, version and cells.
 fn same(a: &Table, b: &Table) -> bool {
-    if a.name().bytes() != b.name().bytes() {
+    if a.name().bytes() != b.name().bytes() || a.version() != b.version() {
         return false;
     }
     for state in STATES {
@@ -29,22 +29,50 @@ fn same(a: &Table, b: &Table) -> bool {
     true
 }
 
+/// Appends an alternative to a local cell, where the table's version has both.
+fn push_said(
+    table: &mut Table,
+    state: State,
+    event: LocalEvent,
+    action: LocalAction,
+) -> Result<(), Fail> {
+    if !table.says_local(event) || !table.says_bus(action.bus) {
+        return Err("a swap".into());
+    }
+    match table.push_local(state, event, action) {
+        Ok(()) => Ok(()),
+        Err(_) => Err("memory".into()),
+    }
+}
+
+/// Appends an answer to an answer cell, where the table's version has it.
+fn push_said_answer(
+    table: &mut Table,
+    state: State,
+    event: BusEvent,
+    answer: SnoopAction,
+) -> Result<(), Fail> {
+    if !table.says_answer(event) {
+        return Err("a swap".into());
+    }
+    match table.push_snoop(state, event, answer) {
+        Ok(()) => Ok(()),
+        Err(_) => Err("memory".into()),
+    }
+}
+
 /// The cells of a table in some of its states.
 fn in_states(alloc: Global, table: &Table, states: &[State]) -> Result<Table, Fail> {
-    let mut part = Table::empty(alloc, table.name());
+    let mut part = Table::empty(alloc, table.name(), table.version());
     for state in states {
         for event in LOCAL_EVENTS {
-            for action in table.local(*state, event) {
-                if part.push_local(*state, event, *action).is_err() {
-                    return Err("memory".into());
-                }
+            for action in table.said_local(*state, event) {
+                push_said(&mut part, *state, event, *action)?;
             }
         }
         for event in BUS_EVENTS {
-            for answer in table.snoop(*state, event) {
-                if part.push_snoop(*state, event, *answer).is_err() {
-                    return Err("memory".into());
-                }
+            for answer in table.said_snoop(*state, event) {
+                push_said_answer(&mut part, *state, event, *answer)?;
             }
         }
     }
@@ -81,12 +109,7 @@ fn what_leads_out_goes(rt: HostRuntime) -> Result<(), Fail> {
         },
         bus: Some(BusEvent::Rd),
     };
-    if wide
-        .push_local(State::I, LocalEvent::Read, to_exclusive)
-        .is_err()
-    {
-        return Err("memory".into());
-    }
+    push_said(&mut wide, State::I, LocalEvent::Read, to_exclusive)?;
     let Ok(Some(narrowed)) = narrow(rt.alloc(), &wide) else {
         return Err("none".into());
     };
@@ -104,6 +127,50 @@ fn nothing_may_be_left(rt: HostRuntime) -> Result<(), Fail> {
     let states = [State::M, State::E, State::S, State::I];
     let without_owned = in_states(rt.alloc(), cached.table(), &states)?;
     assert!(rt; matches!(narrow(rt.alloc(), &without_owned), Ok(None)));
+    Ok(())
+}
+
+/// The table of an uncached board in version 2.
+fn newer_uncached(alloc: Global) -> Result<Table, Fail> {
+    let Some(name) = Name::of(b"un") else {
+        return Err("name".into());
+    };
+    let Ok(older) = library(alloc, Kind::Uncached) else {
+        return Err("memory".into());
+    };
+    let mut table = Table::empty(alloc, name, 2);
+    for event in LOCAL_EVENTS {
+        for action in older.table().said_local(State::I, event) {
+            push_said(&mut table, State::I, event, *action)?;
+        }
+    }
+    Ok(table)
+}
+
+/// An alternative of an uncached board.
+fn uncached(event: BusEvent) -> LocalAction {
+    LocalAction {
+        result: Outcome::Fixed(State::I),
+        bus: Some(event),
+    }
+}
+
+/// A table of version 2 has to say what it does on a swap, by an alternative of the class.
+#[test]
+fn swaps_are_narrowed(rt: HostRuntime) -> Result<(), Fail> {
+    let mut table = newer_uncached(rt.alloc())?;
+    let one_way = uncached(BusEvent::Uwr);
+    push_said(&mut table, State::I, LocalEvent::Swap, one_way)?;
+    assert!(rt; matches!(narrow(rt.alloc(), &table), Ok(None)));
+    let both_ways = uncached(BusEvent::Usw);
+    push_said(&mut table, State::I, LocalEvent::Swap, both_ways)?;
+    let Ok(Some(narrowed)) = narrow(rt.alloc(), &table) else {
+        return Err("none".into());
+    };
+    assert_eq!(rt;
+        narrowed.table().local(State::I, LocalEvent::Swap),
+        [both_ways].as_slice()
+    );
     Ok(())
 }
 

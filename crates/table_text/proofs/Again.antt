@@ -1,7 +1,9 @@
 -- What is written is read again, whatever follows it.
-use Rattle.std.proofs.Common.{◌≡◌, ℕ, zero, suc, ◌<◌, ◌≤◌, Bool, true, false, List, [], ◌∷◌, ◌++◌, length, map, drop, Option, Some, None, Result, Ok, refl, sym, ap, ◌∙◌, append_assoc, arith, not}
+use Rattle.std.proofs.Common.{◌≡◌, ℕ, zero, suc, ◌<◌, ◌≤◌, inl, inr, Bool, true, false, List, [], ◌∷◌, ◌++◌, length, map, drop, Option, Some, None, Result, Ok, refl, sym, ap, ◌∙◌, append_assoc, arith, not}
 use Rattle.std.specs.Prelude.{codes, slice_set}
 use Rattle.std.specs.Str.{bytes_eq}
+use Rattle.std.specs.List.{AllByRecursion}
+use Rattle.class_relation.specs.Versions.{is_bus_said}
 use Rattle.std.proofs.lemmas.List.{append-nil}
 use Rattle.fb_text.specs.Unread.{Unread, Line}
 use Rattle.fb_text.specs.Places.{line_items, lines_items, Words, Item, line_end, text_end, items, lines_places, places}
@@ -16,13 +18,13 @@ use Rattle.class_relation.specs.Tables.{Table, empty_table, with_local, with_ans
 use Rattle.table_text.specs.declared.fault.TableKind.{TableKind}
 use Rattle.table_text.specs.declared.fault.TableKind.TheVariants.{UnknownWord, NoCell}
 use Rattle.class_words.specs.Words.{state_word, bus_event_word, outcome_of, state_of}
-use Rattle.table_text.specs.Reading.{Fault, line_ends, bar_or_end, local_action, local_rest, local_at, snoop_rest, snoop_at, alternatives, local_cell_at, snoop_cell_at, cell_line, table_line, table_lines, table_at}
-use Rattle.table_text.specs.Spelling.{bar, bus_words, local_words, snoop_words, alternative_words, CellLine, local, answer, cell_words, table_items, entered, all_entered, table_of}
+use Rattle.table_text.specs.Reading.{Fault, version_at, bar_or_end, local_action, local_rest, local_at, snoop_rest, snoop_at, alternatives, local_cell_at, snoop_cell_at, cell_line, table_line, table_lines, table_at}
+use Rattle.table_text.specs.Spelling.{bar, bus_words, local_words, snoop_words, alternative_words, CellLine, local, answer, cell_words, IsVersion, version_words, body, table_items, entered, all_entered, table_of}
 use Rattle.table_text.specs.Correct.{CanStand, AllStand}
-use Rattle.class_words.proofs.WordLaws.{state_again, local_event_again, bus_event_again, outcome_again}
-use Rattle.table_text.proofs.EventWords.{no_local_event}
-use Rattle.table_text.proofs.Alternatives.{tail, answer_of}
-use Rattle.table_text.proofs.TableLaws.{HasAllCells, rows_items, all_added, local_added, snoop_added, place_local, place_snoop, entered_whole, empty_whole}
+use Rattle.class_words.proofs.WordLaws.{state_again, outcome_again}
+use Rattle.table_text.proofs.Versions.{local_in_again, bus_in_again, no_local_in}
+use Rattle.table_text.proofs.Alternatives.{tail, answer_of, AnyAnswer}
+use Rattle.table_text.proofs.TableLaws.{HasAllCells, head_items, all_added, local_added, snoop_added, place_local, place_snoop, entered_whole, empty_whole}
 use Rattle.fb_text.proofs.LineItems.{items_line, cut_line}
 use Rattle.bus_signals.proofs.Events.{each_bus}
 use Rattle.std.proofs.lemmas.Bool.{not-true}
@@ -40,22 +42,25 @@ bar_again true rest = refl
 bar_again false rest = refl
 
 no_bus_again :
-    (r : Outcome) (more : Bool) (rest : Words)
-    → local_rest r (tail more rest) ≡ Ok (local_action r None, more, left more rest)
-no_bus_again r true rest = refl
-no_bus_again r false rest = refl
+    (version : ℕ) (r : Outcome) (more : Bool) (rest : Words)
+    → local_rest version r (tail more rest) ≡ Ok (local_action r None, more, left more rest)
+no_bus_again version r true rest = refl
+no_bus_again version r false rest = refl
 
 bus_again :
-    (r : Outcome) (bus : Option BusEvent) (more : Bool) (rest : Words)
-    → local_rest r (bus_words bus ++ tail more rest) ≡ Ok (local_action r bus, more, left more rest)
-bus_again r None more rest = no_bus_again r more rest
-bus_again r (Some b) more rest = rw (not_bar b, bus_event_again b, bar_again more rest) refl
+    (version : ℕ) (r : Outcome) (bus : Option BusEvent) (more : Bool) (rest : Words) → is_bus_said version bus ≡ true
+    → local_rest version r (bus_words bus ++ tail more rest) ≡ Ok (local_action r bus, more, left more rest)
+bus_again version r None more rest said = no_bus_again version r more rest
+bus_again version r (Some b) more rest said =
+    rw (not_bar b, bus_in_again version b said, bar_again more rest) refl
 
 pub local_again :
-    (missing : TableKind) (a : LocalAction) (more : Bool) (rest : Words)
-    → local_at missing (local_words a ++ tail more rest) ≡ Ok (a, more, left more rest)
+    (version : ℕ) (missing : TableKind) (a : LocalAction) (more : Bool) (rest : Words)
+    → is_bus_said version a.bus ≡ true
+    → local_at version missing (local_words a ++ tail more rest) ≡ Ok (a, more, left more rest)
 unfolding local_at
-local_again missing a more rest = rw (outcome_again a.result) (bus_again a.result a.bus more rest)
+local_again version missing a more rest said =
+    rw (outcome_again a.result) (bus_again version a.result a.bus more rest said)
 
 signals_again :
     (s : State) (ch di sl more : Bool) (rest : Words)
@@ -79,45 +84,52 @@ signals_again s false false false true rest = refl
 signals_again s false false false false rest = refl
 
 pub snoop_again :
-    (missing : TableKind) (a : SnoopAction) (more : Bool) (rest : Words)
+    (missing : TableKind) (a : SnoopAction) (more : Bool) (rest : Words) → AnyAnswer a
     → snoop_at missing (snoop_words a ++ tail more rest) ≡ Ok (a, more, left more rest)
 unfolding snoop_at
-snoop_again missing a more rest =
+snoop_again missing a more rest said =
     rw (state_again a.result) (signals_again a.result a.response.ch a.response.di a.response.sl more rest)
 
 module _ {A X : Type 0} (first : List ℕ → Option X) (read : TableKind → Words → Result (A × Bool × Words) TableKind)
-    (f : A → Words) (add : Table → A → Table)
-    (again : (missing : TableKind) (a : A) (more : Bool) (rest : Words)
+    (Said : A → Type 0) (f : A → Words) (add : Table → A → Table)
+    (again : (missing : TableKind) (a : A) (more : Bool) (rest : Words) → Said a
     → read missing (f a ++ tail more rest) ≡ Ok (a, more, left more rest)) where
   pub alternatives_again :
       (room : ℕ) (missing : TableKind) (t : Table) (alts : List A) → 0 < length alts → length alts ≤ room
+      → AllByRecursion Said alts
       → alternatives first read add room missing t (alternative_words f alts) ≡ Ok (all_added add t alts)
   unfolding alternatives
-  alternatives_again zero missing t [] some few = absurd (omega arith)
-  alternatives_again zero missing t (a ∷ alts) some few = absurd (omega arith)
-  alternatives_again (suc room) missing t [] some few = absurd (omega arith)
-  alternatives_again (suc room) missing t (a ∷ []) some few =
+  alternatives_again zero missing t [] some few said = absurd (omega arith)
+  alternatives_again zero missing t (a ∷ alts) some few said = absurd (omega arith)
+  alternatives_again (suc room) missing t [] some few said = absurd (omega arith)
+  alternatives_again (suc room) missing t (a ∷ []) some few said =
       let one : read missing (f a) ≡ Ok (a, false, []) =
-      ap (read missing) (sym (append-nil (f a))) ∙ again missing a false [] in
+      ap (read missing) (sym (append-nil (f a))) ∙ again missing a false [] said.0 in
       rw one refl
-  alternatives_again (suc room) missing t (a ∷ b ∷ more) some few =
-      rw (again missing a true (alternative_words f (b ∷ more)))
-      (alternatives_again room UnknownWord (add t a) (b ∷ more) (omega arith) (omega arith))
+  alternatives_again (suc room) missing t (a ∷ b ∷ more) some few said =
+      rw (again missing a true (alternative_words f (b ∷ more)) said.0)
+      (alternatives_again room UnknownWord (add t a) (b ∷ more) (omega arith) (omega arith) said.1)
+
+-- any answers may be said
+pub any_answers : (alts : List SnoopAction) → AllByRecursion AnyAnswer alts
+any_answers [] = tt
+any_answers (a ∷ alts) = (tt, any_answers alts)
 
 pub cell_again :
     (t : Table) (c : CellLine) → HasAllCells t → CanStand t c → cell_line t (cell_words c) ≡ Ok (entered t c)
 unfolding cell_line local_cell_at snoop_cell_at
 cell_again t (local s e alts) whole can =
-    rw (state_again s, local_event_again e, can.0)
-    (alternatives_again outcome_of local_at local_words (λ u a. with_local u s e a) local_again 16 NoCell t alts
-    can.1 can.2
+    let said = can.3 in
+    rw (state_again s, local_in_again t.version e said.known, can.0)
+    (alternatives_again outcome_of (local_at t.version) (λ a. is_bus_said t.version a.bus ≡ true) local_words
+    (λ u a. with_local u s e a) (local_again t.version) 16 NoCell t alts can.1 can.2 said.buses
     ∙ ap Ok (local_added s e t alts (omega (arith, place_local s e, whole.local))
     ∙ ap (λ (row : List LocalAction). record t { locals = slice_set t.locals (local_cell s e) (row ++ alts) })
     can.0))
 cell_again t (answer s e alts) whole can =
-    rw (state_again s, no_local_event e, bus_event_again e, can.0)
-    (alternatives_again state_of snoop_at snoop_words (λ u a. with_answer u s e a) snoop_again 16 NoCell t alts
-    can.1 can.2
+    rw (state_again s, no_local_in t.version e, bus_in_again t.version e can.3, can.0)
+    (alternatives_again state_of snoop_at AnyAnswer snoop_words (λ u a. with_answer u s e a) snoop_again 16 NoCell t alts
+    can.1 can.2 (any_answers alts)
     ∙ ap Ok (snoop_added s e t alts (omega (arith, place_snoop s e, whole.snoop))
     ∙ ap (λ (row : List SnoopAction). record t { answers = slice_set t.answers (answer_cell s e) (row ++ alts) })
     can.0))
@@ -198,21 +210,28 @@ lines_again (c ∷ cells) t (l ∷ ls) end rest whole stand e =
       ends = others.ends;
     }
 
+-- how the head line of a version goes on is read as the version
+pub version_again : (version : ℕ) → IsVersion version → version_at (version_words version) ≡ Ok version
+version_again version (inl one) = rw one refl
+version_again version (inr two) = rw two refl
+
 -- What is spelled so is read, whatever follows it.
 pub table_again :
-    (name : List ℕ) (u : Unread) (cells : List CellLine) (rest : List Item) → AllStand (empty_table name) cells
-    → items (places u) ≡ table_items cells ++ rest → ReadsOn (table_at name u) (table_of name cells) rest
+    (name : List ℕ) (u : Unread) (version : ℕ) (cells : List CellLine) (rest : List Item) → IsVersion version
+    → AllStand (empty_table name version) cells → items (places u) ≡ table_items (body version cells) ++ rest
+    → ReadsOn (table_at name u) (table_of name (body version cells)) rest
 unfolding table_at
-table_again name u cells rest stand e =
-    let both = cut_line u.words [] (items (lines_places u.lines u.end))
+table_again name u version cells rest known stand e =
+    let both = cut_line u.words (version_words version) (items (lines_places u.lines u.end))
     (cells_items cells ++ (line_items (codes "end" ∷ []) ++ rest))
     (sym (items_line u.line u.words (lines_places u.lines u.end))
-    ∙ (e ∙ ap (λ (xs : List Item). line_end ∷ xs) (rows_items cells rest))) in
-    let found = lines_again cells (empty_table name) u.lines u.end rest (empty_whole name) stand both.1 in
-    let none : line_ends u.words ≡ Ok tt = ap line_ends both.0 in
+    ∙ (e ∙ sym (head_items version cells rest))) in
+    let found = lines_again cells (empty_table name version) u.lines u.end rest (empty_whole name version) stand both.1
+    in
+    let head : version_at u.words ≡ Ok version = ap version_at both.0 ∙ version_again version known in
     record {
       left = found.left;
-      value = rw none found.value;
+      value = rw head found.value;
       items_left = found.items_left;
       ends = found.ends;
     }

@@ -9,11 +9,13 @@ use Rattle.moesi_state.specs.declared.Outcome.{Outcome}
 use Rattle.class_relation.specs.declared.LocalAction.{LocalAction}
 use Rattle.class_relation.specs.declared.SnoopAction.{SnoopAction}
 use Rattle.table_text.specs.declared.fault.TableKind.{TableKind}
-use Rattle.class_words.specs.Words.{state_word, bus_event_word, outcome_word, state_of, bus_event_of, outcome_of}
+use Rattle.class_words.specs.Words.{state_word, bus_event_word, outcome_word, state_of, outcome_of}
 use Rattle.fb_text.specs.Places.{Words}
-use Rattle.table_text.specs.Reading.{◌>>=◌, spelled_by, word_by, bar_or_end, local_action, bus_event_at, local_rest, local_at, signal_at, snoop_rest, snoop_at, response}
+use Rattle.table_text.specs.Reading.{◌>>=◌, spelled_by, word_by, bar_or_end, local_action, bus_event_at, bus_event_in, local_rest, local_at, signal_at, snoop_rest, snoop_at, response}
 use Rattle.table_text.specs.Spelling.{bar, local_words, signal_words, snoop_words}
-use Rattle.class_words.proofs.WordLaws.{state_is, bus_event_is, outcome_is}
+use Rattle.class_relation.specs.Versions.{is_bus_said}
+use Rattle.class_words.proofs.WordLaws.{state_is, outcome_is}
+use Rattle.table_text.proofs.Versions.{bus_in_is}
 
 -- the value of a step that did not fail
 pub bind_ok :
@@ -71,45 +73,52 @@ bar_ends (w ∷ ws) x e h =
 abbrev one_local : LocalAction × Bool × Words → Words
 one_local x = local_words x.0 ++ tail x.1 x.2
 
+-- the words are those of an alternative of this version, and what stands after it
+abbrev pub IsLocal : ℕ → Words → LocalAction × Bool × Words → Type 0
+IsLocal version ws x = (ws ≡ local_words x.0 ++ tail x.1 x.2) × (is_bus_said version x.0.bus ≡ true)
+
 local_rest_takes :
-    (result : Outcome) (ws : Words) (x : LocalAction × Bool × Words) → local_rest result ws ≡ Ok x
-    → (outcome_word result ∷ ws) ≡ one_local x
-local_rest_takes result [] x e =
+    (version : ℕ) (result : Outcome) (ws : Words) (x : LocalAction × Bool × Words)
+    → local_rest version result ws ≡ Ok x → IsLocal version (outcome_word result ∷ ws) x
+local_rest_takes version result [] x e =
     let same = ok_is (local_action result None, false, []) x e in
-    subst (λ (y : LocalAction × Bool × Words). (outcome_word result ∷ []) ≡ one_local y) same refl
-local_rest_takes result (w ∷ ws) x e = go (bytes_eq w bar) refl e
+    subst (λ (y : LocalAction × Bool × Words). IsLocal version (outcome_word result ∷ []) y) same (refl, refl)
+local_rest_takes version result (w ∷ ws) x e = go (bytes_eq w bar) refl e
   where
     event :
-        (o : Option BusEvent) → bus_event_of w ≡ o → bus_event_at result o ws ≡ Ok x
-        → (outcome_word result ∷ w ∷ ws) ≡ one_local x
+        (o : Option BusEvent) → bus_event_in version w ≡ o → bus_event_at result o ws ≡ Ok x
+        → IsLocal version (outcome_word result ∷ w ∷ ws) x
     event None h e = absurd cc
     event (Some b) h e =
         let a = bind_ok (bar_or_end ws) (λ after. Ok (local_action result (Some b), after.0, after.1)) x e in
         let same = ok_is (local_action result (Some b), a.0.0, a.0.1) x a.2 in
+        let known = bus_in_is version w b h in
         let parts : (outcome_word result ∷ w ∷ ws) ≡ one_local (local_action result (Some b), a.0.0, a.0.1) =
         ap (λ (v : Words). outcome_word result ∷ v)
-        (ap (λ (v : List ℕ). v ∷ ws) (bus_event_is w b h)
+        (ap (λ (v : List ℕ). v ∷ ws) known.0
         ∙ ap (λ (v : Words). bus_event_word b ∷ v) (bar_takes ws a.0 a.1)) in
-        subst (λ (y : LocalAction × Bool × Words). (outcome_word result ∷ w ∷ ws) ≡ one_local y) same parts
+        subst (λ (y : LocalAction × Bool × Words). IsLocal version (outcome_word result ∷ w ∷ ws) y) same
+        (parts, known.1)
 
     go :
         (b : Bool) → bytes_eq w bar ≡ b
-        → cond b (Ok (local_action result None, true, ws)) (bus_event_at result (bus_event_of w) ws) ≡ Ok x
-        → (outcome_word result ∷ w ∷ ws) ≡ one_local x
+        → cond b (Ok (local_action result None, true, ws)) (bus_event_at result (bus_event_in version w) ws) ≡ Ok x
+        → IsLocal version (outcome_word result ∷ w ∷ ws) x
     go true h e =
         let same = ok_is (local_action result None, true, ws) x e in
-        subst (λ (y : LocalAction × Bool × Words). (outcome_word result ∷ w ∷ ws) ≡ one_local y) same
-        (rw (is_word w bar h) refl)
-    go false h e = event (bus_event_of w) refl e
+        subst (λ (y : LocalAction × Bool × Words). IsLocal version (outcome_word result ∷ w ∷ ws) y) same
+        (rw (is_word w bar h) refl, refl)
+    go false h e = event (bus_event_in version w) refl e
 
 -- a local alternative, and what follows it
 pub local_takes :
-    (missing : TableKind) (ws : Words) (x : LocalAction × Bool × Words) → local_at missing ws ≡ Ok x
-    → ws ≡ local_words x.0 ++ tail x.1 x.2
+    (version : ℕ) (missing : TableKind) (ws : Words) (x : LocalAction × Bool × Words)
+    → local_at version missing ws ≡ Ok x → IsLocal version ws x
 unfolding local_at
-local_takes missing ws x e =
-    let a = bind_ok (word_by outcome_of missing ws) (λ result. local_rest result.0 result.1) x e in
-    word_takes outcome_of outcome_word outcome_is missing ws a.0 a.1 ∙ local_rest_takes a.0.0 a.0.1 x a.2
+local_takes version missing ws x e =
+    let a = bind_ok (word_by outcome_of missing ws) (λ result. local_rest version result.0 result.1) x e in
+    let rest = local_rest_takes version a.0.0 a.0.1 x a.2 in
+    (word_takes outcome_of outcome_word outcome_is missing ws a.0 a.1 ∙ rest.0, rest.1)
 
 pub signal_takes : (name : List ℕ) (ws : Words) → ws ≡ signal_words (signal_at name ws).0 name ++ (signal_at name ws).1
 signal_takes name [] = refl
@@ -122,6 +131,10 @@ signal_takes name (w ∷ ws) = go (bytes_eq w name) refl
         ++ (cond {A = Bool × Words} b (true, ws) (false, w ∷ ws)).1
     go true h = ap (λ (v : List ℕ). v ∷ ws) (is_word w name h)
     go false h = refl
+
+-- a table of any version may say any answer of a cell that it has
+abbrev pub AnyAnswer : SnoopAction → Type 0
+AnyAnswer a = Unit {0}
 
 abbrev one_snoop : SnoopAction × Bool × Words → Words
 one_snoop x = snoop_words x.0 ++ tail x.1 x.2
@@ -156,8 +169,8 @@ snoop_rest_takes s ws x e =
 
 pub snoop_takes :
     (missing : TableKind) (ws : Words) (x : SnoopAction × Bool × Words) → snoop_at missing ws ≡ Ok x
-    → ws ≡ snoop_words x.0 ++ tail x.1 x.2
+    → (ws ≡ snoop_words x.0 ++ tail x.1 x.2) × AnyAnswer x.0
 unfolding snoop_at
 snoop_takes missing ws x e =
     let a = bind_ok (word_by state_of missing ws) (λ state. snoop_rest state.0 state.1) x e in
-    word_takes state_of state_word state_is missing ws a.0 a.1 ∙ snoop_rest_takes a.0.0 a.0.1 x a.2
+    (word_takes state_of state_word state_is missing ws a.0 a.1 ∙ snoop_rest_takes a.0.0 a.0.1 x a.2, tt)

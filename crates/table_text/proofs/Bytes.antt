@@ -10,15 +10,15 @@ use Rattle.fb_text.proofs.Spaced.{line_again, numbered_rows, lines_numbered}
 use Rattle.class_relation.specs.Tables.{Table, empty_table, IsWhole}
 use Rattle.table_text.specs.declared.fault.TableFault.{TableFault}
 use Rattle.table_text.specs.declared.fault.TableFault.TheVariants as faults
-use Rattle.table_text.specs.Reading.{Fault, GivesTable, table_lines, table_at}
-use Rattle.table_text.specs.Spelling.{CellLine, cell_words, entered, all_entered}
+use Rattle.table_text.specs.Reading.{Fault, GivesTable, version_at, table_lines, table_at}
+use Rattle.table_text.specs.Spelling.{CellLine, cell_words, version_words, entered, all_entered}
 use Rattle.table_text.specs.Correct.{IsReadAs, AllStand}
 use Rattle.table_text.specs.Writing.{cells_of, body_rows, written_table, after_head, behind_head, behind_table}
 use Rattle.table_text.proofs.Again as again
 use Rattle.table_text.proofs.Again.{end_again}
 use Rattle.table_text.proofs.TableLaws.{HasAllCells, empty_whole, entered_whole}
 use Rattle.table_text.proofs.Order.{cells_stand, cells_spell}
-use Rattle.table_text.proofs.Plain.{rows_plain, name_plain}
+use Rattle.table_text.proofs.Plain.{rows_plain, name_plain, version_plain}
 
 -- the lines of a table are read to its `end` line
 read_lines : (cells : List CellLine) (t : Table) (n end : ℕ) (rest : List Line) → HasAllCells t → AllStand t cells
@@ -48,17 +48,21 @@ unfolding table_at
 read_at t line end rest p =
     let ls : List Line = numbered ((line + 1) + length (body_rows t)) (lines rest) in
     let rows = lines_numbered (body_rows t) (line + 1) rest (rows_plain (cells_of t)) in
-    let read = read_lines (cells_of t) (empty_table t.name) (line + 1) end ls (empty_whole t.name) (cells_stand t p) in
+    let read = read_lines (cells_of t) (empty_table t.name t.version) (line + 1) end ls (empty_whole t.name t.version)
+    (cells_stand t p) in
+    let head : version_at (version_words t.version) ≡ Ok t.version =
+    again.version_again t.version p.cells.version.known in
+    rw head (
     let here : (line + 1) + length (cells_of t) ≡ line + length (body_rows t) = omega (arith, body_length t) in
     let there : (line + 1) + length (body_rows t) ≡ (line + length (body_rows t)) + 1 = omega arith in
-    ap (λ (v : List Line). table_lines (empty_table t.name) v end) rows
+    ap (λ (v : List Line). table_lines (empty_table t.name t.version) v end) rows
     ∙ (read
     ∙ (ap (λ (v : Table). Ok (v, record { line = (line + 1) + length (cells_of t); words = []; lines = ls; end = end }))
     (cells_spell t p)
     ∙ (ap (λ (m : ℕ). Ok (t, record { line = m; words = []; lines = ls; end = end })) here
     ∙ ap (λ (m : ℕ).
     Ok (t, record { line = line + length (body_rows t); words = []; lines = numbered m (lines rest); end = end }))
-    there)))
+    there))))
 
 pub goes_on :
     (name : List ℕ) (u left : Unread) (r : Result Table TableFault) → GivesTable r left (table_at name u)
@@ -89,10 +93,11 @@ after_first :
     → after_head (written_table t ++ rest) ≡ behind_head 1 (unread (written_table t ++ rest)).end t rest
 unfolding written_table
 after_first t rest p =
-    let head : Words = codes "table" ∷ t.name ∷ [] in
-    let body : List ℕ = lines_bytes (body_rows t) in
-    let one = ap (λ (v : List ℕ). numbered 1 (lines v)) (append_assoc (line_bytes head) body rest)
-    ∙ line_again 1 (codes "table") (t.name ∷ []) (body ++ rest) refl (name_plain t.name p.named, tt) in
+    let head : Words = codes "table" ∷ t.name ∷ version_words t.version in
+    let bytes : List ℕ = lines_bytes (body_rows t) in
+    let one = ap (λ (v : List ℕ). numbered 1 (lines v)) (append_assoc (line_bytes head) bytes rest)
+    ∙ line_again 1 (codes "table") (t.name ∷ version_words t.version) (bytes ++ rest) refl
+    (name_plain t.name p.named, version_plain t.version p.cells.version.known) in
     ap (λ (v : List Line).
     after_word (after_word (at_next_line
     (record { line = 0; words = []; lines = v; end = (unread (written_table t ++ rest)).end }))))

@@ -5,22 +5,23 @@ use Rattle.std.specs.Str.{bytes_eq}
 use Rattle.std.specs.List.{AllByRecursion}
 use Rattle.std.proofs.lemmas.List.{append-nil, map-append}
 use Rattle.fb_text.specs.Unread.{Unread, Line}
-use Rattle.fb_text.specs.Places.{Words, Item, Place, word, text_end, lines_items, line_places, lines_places, places, IsFault, FirstFault, BreaksAtWord}
+use Rattle.fb_text.specs.Places.{Words, Item, Place, line_items, word, text_end, lines_items, line_places, lines_places, places, IsFault, FirstFault, BreaksAtWord}
 use Rattle.fb_text.proofs.LineItems.{words_append, last_word, from, item_at}
 use Rattle.fb_text.proofs.LineLaws.{IsClosing, BeginsLine, HasNext, NoLine, FreeFront, FaultBehind, first_fault, stops_in_line, behind_line, text_stops, unfit_fault, judged_fault}
 use Rattle.moesi_state.specs.declared.State.{State}
 use Rattle.moesi_state.specs.declared.State.TheVariants.{M, O, E, S, I}
 use Rattle.class_relation.specs.Tables.{Table, empty_table}
 use Rattle.table_text.specs.declared.fault.TableKind.{TableKind}
-use Rattle.table_text.specs.declared.fault.TableKind.TheVariants.{UnknownWord, NoEnd}
+use Rattle.table_text.specs.declared.fault.TableKind.TheVariants.{UnknownWord, Number, NoEnd}
 use Rattle.class_words.specs.Words.{state_word, local_event_word, bus_event_word}
-use Rattle.table_text.specs.Reading.{◌>>=◌, Fault, on_line, line_ends, is_end, table_line, table_lines, table_at, cell_line}
-use Rattle.table_text.specs.Spelling.{bars, CellLine, local, answer, cell_words, local_words, snoop_words, HasLine, HasAlternative, BreaksCell, EndsWithEquals, UnfitTable, table_rows, table_grammar, entered}
+use Rattle.table_text.specs.Reading.{◌>>=◌, Fault, on_line, line_ends, version_number, version_at, is_end, table_line, table_lines, table_at, cell_line}
+use Rattle.table_text.specs.Spelling.{bars, CellLine, local, answer, cell_words, local_words, snoop_words, HasLine, HasAlternative, IsLineOf, IsVersion, TableBody, BodyFits, body, version_words, BreaksCell, EndsWithEquals, WantsNumber, UnfitTable, table_rows, table_grammar, entered}
 use Rattle.table_text.specs.Correct.{CanStand}
 use Rattle.table_text.proofs.Alternatives.{is_word}
 use Rattle.table_text.proofs.Bars.{FewBars, few_total, alternatives_bars, local_bars, snoop_bars, state_no_bar, local_event_no_bar, bus_event_no_bar}
+use Rattle.table_text.proofs.Versions.{version_by_words}
 use Rattle.table_text.proofs.Marks.{Marks, marks_push, marks_empty}
-use Rattle.table_text.proofs.TableLaws.{HasAllCells, cell_line_takes, entered_whole, empty_whole}
+use Rattle.table_text.proofs.TableLaws.{HasAllCells, cell_line_takes, entered_whole, empty_whole, version_takes}
 use Rattle.table_text.proofs.Sides.{IsHard, cell_dead}
 use Rattle.table_text.proofs.CellStops.{BeginsCell, WhyCell, IsNew, cell_stops}
 
@@ -29,76 +30,87 @@ use Rattle.table_text.proofs.CellStops.{BeginsCell, WhyCell, IsNew, cell_stops}
 closed : IsClosing []
 closed = inl refl
 
-spelled : (cells : List CellLine) → table_grammar.spelled cells ≡ lines_items (table_rows cells) ++ []
-spelled cells = sym (append-nil (lines_items (table_rows cells)))
+spelled : (b : TableBody) → table_grammar.spelled b ≡ lines_items (table_rows b) ++ []
+spelled b = sym (append-nil (lines_items (table_rows b)))
 
--- the rest of the head line, and cell lines
-abbrev pub rows : List CellLine → List Words
-rows cells = [] ∷ map cell_words cells
+-- the rest of the head line of a version, and cell lines
+abbrev pub rows : ℕ → List CellLine → List Words
+rows v cells = version_words v ∷ map cell_words cells
 
 abbrev end_row : Words
 end_row = codes "end" ∷ []
 
-rows_push : (done : List CellLine) (c : CellLine) → rows (done ++ c ∷ []) ≡ rows done ++ cell_words c ∷ []
-rows_push done c = ap (λ (v : List Words). [] ∷ v) (map-append cell_words done (c ∷ []))
+rows_push :
+    (v : ℕ) (done : List CellLine) (c : CellLine) → rows v (done ++ c ∷ []) ≡ rows v done ++ cell_words c ∷ []
+rows_push v done c = ap (λ (ls : List Words). version_words v ∷ ls) (map-append cell_words done (c ∷ []))
 
 rows_more :
-    (done : List CellLine) (c : CellLine) → table_rows (done ++ c ∷ []) ≡ rows done ++ cell_words c ∷ end_row ∷ []
-rows_more done c =
-    ap (λ (v : List Words). v ++ end_row ∷ []) (rows_push done c)
-    ∙ append_assoc (rows done) (cell_words c ∷ []) (end_row ∷ [])
+    (v : ℕ) (done : List CellLine) (c : CellLine)
+    → table_rows (body v (done ++ c ∷ [])) ≡ rows v done ++ cell_words c ∷ end_row ∷ []
+rows_more v done c =
+    ap (λ (ls : List Words). ls ++ end_row ∷ []) (rows_push v done c)
+    ∙ append_assoc (rows v done) (cell_words c ∷ []) (end_row ∷ [])
 
 all_push :
-    (done : List CellLine) (c : CellLine) → AllByRecursion HasAlternative done → HasAlternative c
-    → AllByRecursion HasAlternative (done ++ c ∷ [])
-all_push [] c h some = (some, tt)
-all_push (d ∷ done) c h some = (h.0, all_push done c h.1 some)
+    (v : ℕ) (done : List CellLine) (c : CellLine) → AllByRecursion (IsLineOf v) done → IsLineOf v c
+    → AllByRecursion (IsLineOf v) (done ++ c ∷ [])
+all_push v [] c h line = (line, tt)
+all_push v (d ∷ done) c h line = (h.0, all_push v done c h.1 line)
 
 not_end_line : (c : CellLine) → cell_words c ≡ end_row → ⊥
 not_end_line (local s e alts) h = absurd cc
 not_end_line (answer s e alts) h = absurd cc
 
 -- the line after these is a cell line or the `end` line
-abbrev IsRow : Words → Type 0
-IsRow l = ((c : CellLine) × HasAlternative c × (cell_words c ≡ l)) ⊎ (end_row ≡ l)
+abbrev IsRow : ℕ → Words → Type 0
+IsRow v l = ((c : CellLine) × IsLineOf v c × (cell_words c ≡ l)) ⊎ (end_row ≡ l)
 
 row_behind :
-    (done cells : List CellLine) (l : Words) (others : List Words) → AllByRecursion HasAlternative cells
-    → map cell_words cells ++ end_row ∷ [] ≡ map cell_words done ++ l ∷ others → IsRow l
-row_behind [] [] l others all e = inr cc
-row_behind [] (c ∷ cells) l others all e = inl (c, all.0, cc)
-row_behind (d ∷ done) [] l others all e = absurd (let same : end_row ≡ cell_words d = cc in not_end_line d (sym same))
-row_behind (d ∷ done) (c ∷ cells) l others all e =
+    (v : ℕ) (done cells : List CellLine) (l : Words) (others : List Words) → AllByRecursion (IsLineOf v) cells
+    → map cell_words cells ++ end_row ∷ [] ≡ map cell_words done ++ l ∷ others → IsRow v l
+row_behind v [] [] l others all e = inr cc
+row_behind v [] (c ∷ cells) l others all e = inl (c, all.0, cc)
+row_behind v (d ∷ done) [] l others all e = absurd (let same : end_row ≡ cell_words d = cc in not_end_line d (sym same))
+row_behind v (d ∷ done) (c ∷ cells) l others all e =
     let rest : map cell_words cells ++ end_row ∷ [] ≡ map cell_words done ++ l ∷ others = cc in
-    row_behind done cells l others all.1 rest
+    row_behind v done cells l others all.1 rest
 
 no_row :
-    (done : List CellLine) (front : Words) (at : Option (List ℕ))
-    → ((c : CellLine) (more : Words) → HasAlternative c → cell_words c ≡ front ++ from at more → ⊥)
-    → ((more : Words) → end_row ≡ front ++ from at more → ⊥) → NoLine table_grammar table_rows (rows done) front at
-no_row done front at no_cell no_end cells more others all e =
-    let rest : map cell_words cells ++ end_row ∷ [] ≡ map cell_words done ++ (front ++ from at more) ∷ others = cc in
-    go (row_behind done cells (front ++ from at more) others all rest)
+    (v : ℕ) (done : List CellLine) (front : Words) (at : Option (List ℕ)) → IsVersion v
+    → ((c : CellLine) (more : Words) → IsLineOf v c → cell_words c ≡ front ++ from at more → ⊥)
+    → ((more : Words) → end_row ≡ front ++ from at more → ⊥) → NoLine table_grammar table_rows (rows v done) front at
+no_row v done front at known no_cell no_end b more others fits e =
+    let head : version_words b.version ≡ version_words v = cc in
+    let same : b.version ≡ v = version_by_words b.version v fits.version known head in
+    let rest : map cell_words b.cells ++ end_row ∷ [] ≡ map cell_words done ++ (front ++ from at more) ∷ others = cc in
+    let lines : AllByRecursion (IsLineOf v) b.cells =
+    subst (λ (x : ℕ). AllByRecursion (IsLineOf x) b.cells) same fits.lines in
+    go (row_behind v done b.cells (front ++ from at more) others lines rest)
   where
-    go : IsRow (front ++ from at more) → ⊥
-    go (inl (c, some, h)) = no_cell c more some h
+    go : IsRow v (front ++ from at more) → ⊥
+    go (inl (c, line, h)) = no_cell c more line h
     go (inr h) = no_end more h
 
 begins_row :
-    (done : List CellLine) (front : Words) → AllByRecursion HasAlternative done → BeginsCell front
-    → BeginsLine table_grammar table_rows (rows done) front
-begins_row done front all (c, more, some, e) = (
-  done ++ c ∷ [],
+    (v : ℕ) (done : List CellLine) (front : Words) → IsVersion v → AllByRecursion (IsLineOf v) done
+    → BeginsCell v front → BeginsLine table_grammar table_rows (rows v done) front
+begins_row v done front known all (c, more, line, e) = (
+  body v (done ++ c ∷ []),
   more,
   end_row ∷ [],
-  all_push done c all some,
-  rows_more done c ∙ ap (λ (v : Words). rows done ++ v ∷ end_row ∷ []) e,
+  record { version = known; lines = all_push v done c all line },
+  rows_more v done c ∙ ap (λ (l : Words). rows v done ++ l ∷ end_row ∷ []) e,
 )
 
 has_row :
-    (done : List CellLine) (c : CellLine) → AllByRecursion HasAlternative done → HasAlternative c
-    → HasNext table_grammar table_rows (rows done) (cell_words c)
-has_row done c all some = (done ++ c ∷ [], end_row ∷ [], all_push done c all some, rows_more done c)
+    (v : ℕ) (done : List CellLine) (c : CellLine) → IsVersion v → AllByRecursion (IsLineOf v) done → IsLineOf v c
+    → HasNext table_grammar table_rows (rows v done) (cell_words c)
+has_row v done c known all line = (
+  body v (done ++ c ∷ []),
+  end_row ∷ [],
+  record { version = known; lines = all_push v done c all line },
+  rows_more v done c,
+)
 
 -- ---- side conditions
 
@@ -152,14 +164,25 @@ last_equals done front p e = (
 abbrev given : (x : List Item) (i : Item) (k : TableKind) → BreaksAtWord BreaksCell x i k → table_grammar.Breaks x i k
 given x i k b = b
 
+-- after the head line no number is wanted
+no_number :
+    (v : ℕ) (done : List CellLine) (front : Words) → WantsNumber (lines_items (rows v done) ++ map word front) → ⊥
+no_number v done front h = no_line_end (version_words v) (lines_items (map cell_words done)) (map word front) h
+  where
+    no_line_end : (ws : Words) (xs ys : List Item) → (line_items ws ++ xs) ++ ys ≡ word (codes "version") ∷ [] → ⊥
+    no_line_end [] xs ys h = cc
+    no_line_end (w ∷ []) xs ys h = cc
+    no_line_end (w ∷ u ∷ ws) xs ys h = cc
+
 -- why a cell line was refused is the fault at that place
 cell_fault :
     (done : List CellLine) (t : Table) (ws front : Words) (at : Option (List ℕ)) (kind : TableKind)
-    → AllByRecursion HasAlternative done → is_end ws ≡ false → (r : Words) → ws ≡ front ++ from at r
+    → IsVersion t.version → AllByRecursion (IsLineOf t.version) done → is_end ws ≡ false → (r : Words)
+    → ws ≡ front ++ from at r
     → ((more : Words) → cell_line t (front ++ from at more) ≡ Err kind)
-    → WhyCell (rows done) front at kind
-    → IsFault table_grammar (lines_items (rows done) ++ map word front) (item_at at) kind
-cell_fault done t ws front at kind all no_end r parts stays why = go at parts stays why
+    → WhyCell t.version (rows t.version done) front at kind
+    → IsFault table_grammar (lines_items (rows t.version done) ++ map word front) (item_at at) kind
+cell_fault done t ws front at kind known all no_end r parts stays why = go at parts stays why
   where
     no_end_front :
         (front : Words) (at : Option (List ℕ)) → ws ≡ front ++ from at r → (more : Words)
@@ -177,71 +200,73 @@ cell_fault done t ws front at kind all no_end r parts stays why = go at parts st
     dead :
         (at : Option (List ℕ)) → ws ≡ front ++ from at r
         → ((more : Words) → cell_line t (front ++ from at more) ≡ Err kind) → IsHard kind
-        → NoLine table_grammar table_rows (rows done) front at
-    dead at p stays hard = no_row done front at (cell_dead t front at kind stays hard) (no_end_front front at p)
+        → NoLine table_grammar table_rows (rows t.version done) front at
+    dead at p stays hard = no_row t.version done front at known (cell_dead t front at kind stays hard) (no_end_front front at p)
 
     unfit :
         (at : Option (List ℕ)) → ws ≡ front ++ from at r
         → ((more : Words) → cell_line t (front ++ from at more) ≡ Err kind) → IsHard kind
-        → UnfitTable (lines_items (rows done) ++ map word front) (item_at at) kind
-        → IsFault table_grammar (lines_items (rows done) ++ map word front) (item_at at) kind
+        → UnfitTable (lines_items (rows t.version done) ++ map word front) (item_at at) kind
+        → IsFault table_grammar (lines_items (rows t.version done) ++ map word front) (item_at at) kind
     unfit at p stays hard h =
-        unfit_fault table_grammar table_rows [] closed spelled BreaksCell given given (rows done) front at kind
+        unfit_fault table_grammar table_rows [] closed spelled BreaksCell given given (rows t.version done) front at kind
         (dead at p stays hard) h
 
     judged :
-        (w : List ℕ) → BeginsCell (front ++ w ∷ []) → BreaksCell (rows done) front w kind
-        → IsFault table_grammar (lines_items (rows done) ++ map word front) (word w) kind
+        (w : List ℕ) → BeginsCell t.version (front ++ w ∷ []) → BreaksCell (rows t.version done) front w kind
+        → IsFault table_grammar (lines_items (rows t.version done) ++ map word front) (word w) kind
     judged w begins j =
-        judged_fault table_grammar table_rows [] closed spelled BreaksCell given given (rows done) front w kind
-        (begins_row done (front ++ w ∷ []) all begins) j
+        judged_fault table_grammar table_rows [] closed spelled BreaksCell given given (rows t.version done) front w kind
+        (begins_row t.version done (front ++ w ∷ []) known all begins) j
 
     go :
         (at : Option (List ℕ)) → ws ≡ front ++ from at r
-        → ((more : Words) → cell_line t (front ++ from at more) ≡ Err kind) → WhyCell (rows done) front at kind
-        → IsFault table_grammar (lines_items (rows done) ++ map word front) (item_at at) kind
+        → ((more : Words) → cell_line t (front ++ from at more) ≡ Err kind) → WhyCell t.version (rows t.version done) front at kind
+        → IsFault table_grammar (lines_items (rows t.version done) ++ map word front) (item_at at) kind
     go None p stays (inl (k, s, a, e)) =
-        unfit None p stays (subst IsHard (sym k) tt) (inl (last_equals (rows done) front (s ∷ a ∷ []) e, k))
+        unfit None p stays (subst IsHard (sym k) tt) (inr (inl (last_equals (rows t.version done) front (s ∷ a ∷ []) e, k)))
     go None p stays (inr (k, no_equals)) =
-        unfit None p stays (subst IsHard (sym k) tt) (inr (no_last_equals (rows done) front no_equals, k))
-    go (Some w) p stays (inl k) = unfit (Some w) p stays (subst IsHard (sym k) tt) k
+        unfit None p stays (subst IsHard (sym k) tt) (inr (inr (no_number t.version done front, no_last_equals (rows t.version done) front no_equals, k)))
+    go (Some w) p stays (inl k) = unfit (Some w) p stays (subst IsHard (sym k) tt) (inr (no_number t.version done front, k))
     go (Some w) p stays (inr (inl (k, twice, begins))) = judged w begins (inl (twice, k))
     go (Some w) p stays (inr (inr (k, count, begins))) = judged w begins (inr (count, k))
 
 -- a line that is not an `end` line, at which a cell line stops
 cell_stops_in_line :
     (done : List CellLine) (t : Table) (n : ℕ) (ws : Words) (rest : List Place) (kind : TableKind)
-    → AllByRecursion HasAlternative done → Marks t (rows done) → is_end ws ≡ false → cell_line t ws ≡ Err kind
-    → FaultBehind table_grammar (rows done) (line_places n ws rest) n kind
-cell_stops_in_line done t n ws rest kind all marks no_end e =
-    let s = cell_stops t (rows done) marks ws kind e in
-    stops_in_line table_grammar table_rows [] closed spelled BreaksCell given given (rows done) n ws rest s.front s.at
-    s.rest kind s.parts (begins_row done s.front all s.begins) (free_front (rows done) s.front s.why.few s.why.new)
-    (cell_fault done t ws s.front s.at kind all no_end s.rest s.parts (λ more. s.local more) s.why.why)
+    → IsVersion t.version → AllByRecursion (IsLineOf t.version) done → Marks t (rows t.version done)
+    → is_end ws ≡ false → cell_line t ws ≡ Err kind
+    → FaultBehind table_grammar (rows t.version done) (line_places n ws rest) n kind
+cell_stops_in_line done t n ws rest kind known all marks no_end e =
+    let s = cell_stops t (rows t.version done) marks ws kind e in
+    stops_in_line table_grammar table_rows [] closed spelled BreaksCell given given (rows t.version done) n ws rest s.front
+    s.at s.rest kind s.parts (begins_row t.version done s.front known all s.begins)
+    (free_front (rows t.version done) s.front s.why.few s.why.new)
+    (cell_fault done t ws s.front s.at kind known all no_end s.rest s.parts (λ more. s.local more) s.why.why)
 
 -- an `end` line with more words
 end_left :
-    (done : List CellLine) (n : ℕ) (ws : Words) (rest : List Place) (kind : TableKind)
-    → AllByRecursion HasAlternative done → is_end ws ≡ true → line_ends (drop 1 ws) ≡ Err kind
-    → FaultBehind table_grammar (rows done) (line_places n ws rest) n kind
-end_left done n [] rest kind all h e = absurd cc
-end_left done n (v ∷ []) rest kind all h e = absurd cc
-end_left done n (v ∷ w ∷ ws) rest kind all h e =
+    (v : ℕ) (done : List CellLine) (n : ℕ) (ws : Words) (rest : List Place) (kind : TableKind) → IsVersion v
+    → AllByRecursion (IsLineOf v) done → is_end ws ≡ true → line_ends (drop 1 ws) ≡ Err kind
+    → FaultBehind table_grammar (rows v done) (line_places n ws rest) n kind
+end_left v done n [] rest kind known all h e = absurd cc
+end_left v done n (u ∷ []) rest kind known all h e = absurd cc
+end_left v done n (u ∷ w ∷ ws) rest kind known all h e =
     let k : kind ≡ UnknownWord = cc in
-    stops_in_line table_grammar table_rows [] closed spelled BreaksCell given given (rows done) n (v ∷ w ∷ ws) rest
-    end_row (Some w) ws kind (ap (λ (u : List ℕ). u ∷ w ∷ ws) (is_word v (codes "end") h)) begins
-    (free_front (rows done) end_row (few_total 16 end_row (omega arith)) new)
-    (unfit_fault table_grammar table_rows [] closed spelled BreaksCell given given (rows done) end_row (Some w) kind
-    (no_row done end_row (Some w) no_cell no_end) k)
+    stops_in_line table_grammar table_rows [] closed spelled BreaksCell given given (rows v done) n (u ∷ w ∷ ws) rest
+    end_row (Some w) ws kind (ap (λ (x : List ℕ). x ∷ w ∷ ws) (is_word u (codes "end") h)) begins
+    (free_front (rows v done) end_row (few_total 16 end_row (omega arith)) new)
+    (unfit_fault table_grammar table_rows [] closed spelled BreaksCell given given (rows v done) end_row (Some w) kind
+    (no_row v done end_row (Some w) known no_cell no_end) (inr (no_number v done end_row, k)))
   where
-    begins : BeginsLine table_grammar table_rows (rows done) end_row
-    begins = (done, [], [], all, refl)
+    begins : BeginsLine table_grammar table_rows (rows v done) end_row
+    begins = (body v done, [], [], record { version = known; lines = all }, refl)
 
-    new : IsNew (rows done) end_row
+    new : IsNew (rows v done) end_row
     new a b more q has = cc
 
-    no_cell : (c : CellLine) (more : Words) → HasAlternative c → cell_words c ≡ end_row ++ from (Some w) more → ⊥
-    no_cell (local s e alts) more some h = let same : state_word s ≡ codes "end" = cc in no_state s same
+    no_cell : (c : CellLine) (more : Words) → IsLineOf v c → cell_words c ≡ end_row ++ from (Some w) more → ⊥
+    no_cell (local s e alts) more line h = let same : state_word s ≡ codes "end" = cc in no_state s same
       where
         no_state : (s : State) → state_word s ≡ codes "end" → ⊥
         no_state M h = cc
@@ -249,7 +274,7 @@ end_left done n (v ∷ w ∷ ws) rest kind all h e =
         no_state E h = cc
         no_state S h = cc
         no_state I h = cc
-    no_cell (answer s e alts) more some h = let same : state_word s ≡ codes "end" = cc in no_state s same
+    no_cell (answer s e alts) more line h = let same : state_word s ≡ codes "end" = cc in no_state s same
       where
         no_state : (s : State) → state_word s ≡ codes "end" → ⊥
         no_state M h = cc
@@ -279,125 +304,301 @@ fault_line n k f e =
     let same : record { line = n; kind = k } ≡ f = cc in
     (ap (λ (x : Fault). x.line) same, ap (λ (x : Fault). x.kind) same)
 
-abbrev Faulty : List CellLine → List Place → Fault → Type 0
-Faulty done ps f = FaultBehind table_grammar (rows done) ps f.line f.kind
+abbrev Faulty : ℕ → List CellLine → List Place → Fault → Type 0
+Faulty v done ps f = FaultBehind table_grammar (rows v done) ps f.line f.kind
 
 faulty :
-    (done : List CellLine) (ps : List Place) (n : ℕ) (k : TableKind) (f : Fault) → (n ≡ f.line) × (k ≡ f.kind)
-    → FaultBehind table_grammar (rows done) ps n k → Faulty done ps f
-faulty done ps n k f same h =
-    subst (λ (x : ℕ). FaultBehind table_grammar (rows done) ps x f.kind) same.0
-    (subst (λ (x : TableKind). FaultBehind table_grammar (rows done) ps n x) same.1 h)
+    (v : ℕ) (done : List CellLine) (ps : List Place) (n : ℕ) (k : TableKind) (f : Fault)
+    → (n ≡ f.line) × (k ≡ f.kind)
+    → FaultBehind table_grammar (rows v done) ps n k → Faulty v done ps f
+faulty v done ps n k f same h =
+    subst (λ (x : ℕ). FaultBehind table_grammar (rows v done) ps x f.kind) same.0
+    (subst (λ (x : TableKind). FaultBehind table_grammar (rows v done) ps n x) same.1 h)
 
 -- what was passed
-pub record Passed (done : List CellLine) (t : Table) : Type 0 where
-  pub all : AllByRecursion HasAlternative done
+pub record Passed (v : ℕ) (done : List CellLine) (t : Table) : Type 0 where
+  pub same : t.version ≡ v
+  pub all : AllByRecursion (IsLineOf v) done
   pub whole : HasAllCells t
-  pub marks : Marks t (rows done)
+  pub marks : Marks t (rows v done)
+
+entered_version : (t : Table) (c : CellLine) → (entered t c).version ≡ t.version
+entered_version t (local s e alts) = refl
+entered_version t (answer s e alts) = refl
+
+-- a line that can stand is one of the version
+pub stands_as_line : (t : Table) (c : CellLine) → HasAlternative c → CanStand t c → IsLineOf t.version c
+stands_as_line t (local s e alts) some can = record { some = some; said = can.3 }
+stands_as_line t (answer s e alts) some can = record { some = some; said = can.3 }
+
+line_of : (v : ℕ) (done : List CellLine) (t : Table) (c : CellLine) → Passed v done t → HasAlternative c → CanStand t c
+    → IsLineOf v c
+line_of v done t c p some can = subst (λ (x : ℕ). IsLineOf x c) p.same (stands_as_line t c some can)
 
 pass :
-    (done : List CellLine) (t : Table) (c : CellLine) (mid : Table) → Passed done t → HasAlternative c
-    → mid ≡ entered t c → Passed (done ++ c ∷ []) mid
-pass done t c mid p some e = record {
-  all = all_push done c p.all some;
+    (v : ℕ) (done : List CellLine) (t : Table) (c : CellLine) (mid : Table) → Passed v done t → HasAlternative c
+    → CanStand t c → mid ≡ entered t c → Passed v (done ++ c ∷ []) mid
+pass v done t c mid p some can e = record {
+  same = ap (λ (x : Table). x.version) e ∙ (entered_version t c ∙ p.same);
+  all = all_push v done c p.all (line_of v done t c p some can);
   whole = subst HasAllCells (sym e) (entered_whole t c p.whole);
   marks =
-      subst (λ (x : Table). Marks x (rows (done ++ c ∷ []))) (sym e)
-      (subst (λ (x : List Words). Marks (entered t c) x) (sym (rows_push done c))
-      (marks_push t (rows done) c p.whole p.marks some));
+      subst (λ (x : Table). Marks x (rows v (done ++ c ∷ []))) (sym e)
+      (subst (λ (x : List Words). Marks (entered t c) x) (sym (rows_push v done c))
+      (marks_push t (rows v done) c p.whole p.marks some));
 }
 
 passes_line :
-    (done : List CellLine) (t : Table) (n : ℕ) (ws : Words) (rest : List Place) (f : Fault) (c : CellLine)
-    → Passed done t → HasAlternative c → CanStand t c → ws ≡ cell_words c → Faulty (done ++ c ∷ []) rest f
-    → Faulty done (line_places n ws rest) f
-passes_line done t n ws rest f c p some can e h =
-    let behind = behind_line table_grammar table_rows [] closed spelled BreaksCell given given (rows done) n
-    (cell_words c) rest f.line f.kind (has_row done c p.all some)
-    (free_front (rows done) (cell_words c) (few_row t c can) (new_row t (rows done) c p.marks can))
-    (subst (λ (x : List Words). FaultBehind table_grammar x rest f.line f.kind) (rows_push done c) h) in
-    subst (λ (x : Words). Faulty done (line_places n x rest) f) (sym e) behind
+    (v : ℕ) (done : List CellLine) (t : Table) (n : ℕ) (ws : Words) (rest : List Place) (f : Fault) (c : CellLine)
+    → IsVersion v → Passed v done t → HasAlternative c → CanStand t c → ws ≡ cell_words c
+    → Faulty v (done ++ c ∷ []) rest f → Faulty v done (line_places n ws rest) f
+passes_line v done t n ws rest f c known p some can e h =
+    let behind = behind_line table_grammar table_rows [] closed spelled BreaksCell given given (rows v done) n
+    (cell_words c) rest f.line f.kind (has_row v done c known p.all (line_of v done t c p some can))
+    (free_front (rows v done) (cell_words c) (few_row t c can) (new_row t (rows v done) c p.marks can))
+    (subst (λ (x : List Words). FaultBehind table_grammar x rest f.line f.kind) (rows_push v done c) h) in
+    subst (λ (x : Words). Faulty v done (line_places n x rest) f) (sym e) behind
+
+-- a line at which a cell line stops, in a table of this version
+stops_in_cell :
+    (v : ℕ) (done : List CellLine) (t : Table) (n : ℕ) (ws : Words) (rest : List Place) (kind : TableKind)
+    → IsVersion v → Passed v done t → is_end ws ≡ false → cell_line t ws ≡ Err kind
+    → FaultBehind table_grammar (rows v done) (line_places n ws rest) n kind
+stops_in_cell v done t n ws rest kind known p no_end e =
+    subst (λ (x : ℕ). FaultBehind table_grammar (rows x done) (line_places n ws rest) n kind) p.same
+    (cell_stops_in_line done t n ws rest kind
+    (subst IsVersion (sym p.same) known)
+    (subst (λ (x : ℕ). AllByRecursion (IsLineOf x) done) (sym p.same) p.all)
+    (subst (λ (x : ℕ). Marks t (rows x done)) (sym p.same) p.marks) no_end e)
 
 pub lines_stop :
-    (done : List CellLine) (t : Table) (ls : List Line) (end : ℕ) (f : Fault) → Passed done t
-    → table_lines t ls end ≡ Err f → Faulty done (lines_places ls end) f
+    (v : ℕ) (done : List CellLine) (t : Table) (ls : List Line) (end : ℕ) (f : Fault) → IsVersion v → Passed v done t
+    → table_lines t ls end ≡ Err f → Faulty v done (lines_places ls end) f
 unfolding table_lines table_line
-lines_stop done t [] end f p e =
-    faulty done (lines_places [] end) end NoEnd f (fault_line {X = Table × Unread} end NoEnd f e)
-    (text_stops table_grammar table_rows [] closed spelled BreaksCell given given (rows done) end NoEnd never refl)
+lines_stop v done t [] end f known p e =
+    faulty v done (lines_places [] end) end NoEnd f (fault_line {X = Table × Unread} end NoEnd f e)
+    (text_stops table_grammar table_rows [] closed spelled BreaksCell given given (rows v done) end NoEnd never refl)
   where
     never :
-        (cells : List CellLine) → AllByRecursion HasAlternative cells → table_rows cells ≡ rows done
-        → [] ≡ text_end ∷ [] → ⊥
-    never cells all h k = cc
-lines_stop done t (l ∷ ls) end f p e = go (is_end l.words) refl e (λ more mid q h. lines_stop more mid ls end f q h)
+        (b : TableBody) → BodyFits b → table_rows b ≡ rows v done → [] ≡ text_end ∷ [] → ⊥
+    never b fits h k = cc
+lines_stop v done t (l ∷ ls) end f known p e =
+    go (is_end l.words) refl e (λ more mid q h. lines_stop v more mid ls end f known q h)
   where
     at_end :
         (r : Result (Unit {0}) TableKind) → is_end l.words ≡ true → line_ends (drop 1 l.words) ≡ r
         → (on_line l.number (end_of t r) >>= go_on l.number ls end) ≡ Err f
-        → Faulty done (line_places l.number l.words (lines_places ls end)) f
+        → Faulty v done (line_places l.number l.words (lines_places ls end)) f
     at_end (Ok u) h k e = absurd cc
     at_end (Err k) h q e =
-        faulty done (line_places l.number l.words (lines_places ls end)) l.number k f
+        faulty v done (line_places l.number l.words (lines_places ls end)) l.number k f
         (fault_line {X = Table × Unread} l.number k f e)
-        (end_left done l.number l.words (lines_places ls end) k p.all h q)
+        (end_left v done l.number l.words (lines_places ls end) k known p.all h q)
 
     at_cell :
         (r : Result Table TableKind) → is_end l.words ≡ false → cell_line t l.words ≡ r
         → (on_line l.number (cell_of r) >>= go_on l.number ls end) ≡ Err f
-        → ((more : List CellLine) (mid : Table) → Passed more mid → table_lines mid ls end ≡ Err f
-        → Faulty more (lines_places ls end) f)
-        → Faulty done (line_places l.number l.words (lines_places ls end)) f
+        → ((more : List CellLine) (mid : Table) → Passed v more mid → table_lines mid ls end ≡ Err f
+        → Faulty v more (lines_places ls end) f)
+        → Faulty v done (line_places l.number l.words (lines_places ls end)) f
     at_cell (Err k) h q e ih =
-        faulty done (line_places l.number l.words (lines_places ls end)) l.number k f
+        faulty v done (line_places l.number l.words (lines_places ls end)) l.number k f
         (fault_line {X = Table × Unread} l.number k f e)
-        (cell_stops_in_line done t l.number l.words (lines_places ls end) k p.all p.marks h q)
+        (stops_in_cell v done t l.number l.words (lines_places ls end) k known p h q)
     at_cell (Ok mid) h q e ih =
         let c = cell_line_takes t l.words mid p.whole q in
-        passes_line done t l.number l.words (lines_places ls end) f c.line p c.some c.can c.words
-        (ih (done ++ c.line ∷ []) mid (pass done t c.line mid p c.some c.enters) e)
+        passes_line v done t l.number l.words (lines_places ls end) f c.line known p c.some c.can c.words
+        (ih (done ++ c.line ∷ []) mid (pass v done t c.line mid p c.some c.can c.enters) e)
 
     go :
         (b : Bool) → is_end l.words ≡ b
         → (on_line l.number (cond b (end_of t (line_ends (drop 1 l.words))) (cell_of (cell_line t l.words))) >>= go_on
         l.number ls end) ≡ Err f
-        → ((more : List CellLine) (mid : Table) → Passed more mid → table_lines mid ls end ≡ Err f
-        → Faulty more (lines_places ls end) f)
-        → Faulty done (line_places l.number l.words (lines_places ls end)) f
+        → ((more : List CellLine) (mid : Table) → Passed v more mid → table_lines mid ls end ≡ Err f
+        → Faulty v more (lines_places ls end) f)
+        → Faulty v done (line_places l.number l.words (lines_places ls end)) f
     go true h e ih = at_end (line_ends (drop 1 l.words)) h refl e
     go false h e ih = at_cell (cell_line t l.words) h refl e ih
+
+-- ---- the head line
+
+-- no head line goes on with a word that cannot stand there
+no_first : (w : List ℕ) → bytes_eq w (codes "version") ≡ false → NoLine table_grammar table_rows [] [] (Some w)
+no_first w other b more others fits h = go fits.version
+  where
+    first : version_words b.version ≡ w ∷ more
+    first = cc
+
+    go : IsVersion b.version → ⊥
+    go (inl one) =
+        let none : version_words b.version ≡ [] = rw one refl in
+        let both : ◌≡◌ {A = Words} [] (w ∷ more) = sym none ∙ first in
+        cc
+    go (inr two) =
+        let some : version_words b.version ≡ codes "version" ∷ codes "2" ∷ [] = rw two refl in
+        let both : ◌≡◌ {A = Words} (codes "version" ∷ codes "2" ∷ []) (w ∷ more) = sym some ∙ first in
+        let same : codes "version" ≡ w = cc in
+        let test : bytes_eq w (codes "version") ≡ true = ap (λ (x : List ℕ). bytes_eq x (codes "version")) (sym same) in
+        (let clash : true ≡ false = sym test ∙ other in cc)
+
+abbrev version_front : Words
+version_front = codes "version" ∷ []
+
+-- after `version` no other word than `2` stands, nor the end of the line
+no_number_but_two :
+    (at : Option (List ℕ)) → ((w : List ℕ) → at ≡ Some w → bytes_eq w (codes "2") ≡ false)
+    → NoLine table_grammar table_rows [] version_front at
+no_number_but_two at other b more others fits h = go fits.version
+  where
+    first : version_words b.version ≡ codes "version" ∷ from at more
+    first = cc
+
+    behind : (at : Option (List ℕ)) → ((w : List ℕ) → at ≡ Some w → bytes_eq w (codes "2") ≡ false)
+        → ◌≡◌ {A = Words} (codes "version" ∷ codes "2" ∷ []) (codes "version" ∷ from at more) → ⊥
+    behind None other both = cc
+    behind (Some w) other both =
+        let same : codes "2" ≡ w = cc in
+        let test : bytes_eq w (codes "2") ≡ true = ap (λ (x : List ℕ). bytes_eq x (codes "2")) (sym same) in
+        (let clash : true ≡ false = sym test ∙ other w refl in cc)
+
+    go : IsVersion b.version → ⊥
+    go (inl one) =
+        let none : version_words b.version ≡ [] = rw one refl in
+        let both : ◌≡◌ {A = Words} [] (codes "version" ∷ from at more) = sym none ∙ first in
+        cc
+    go (inr two) =
+        let some : version_words b.version ≡ codes "version" ∷ codes "2" ∷ [] = rw two refl in
+        behind at other (sym some ∙ first)
+
+abbrev two_front : Words
+two_front = codes "version" ∷ codes "2" ∷ []
+
+-- after the version nothing stands
+no_third : (w : List ℕ) → NoLine table_grammar table_rows [] two_front (Some w)
+no_third w b more others fits h = go fits.version
+  where
+    first : version_words b.version ≡ codes "version" ∷ codes "2" ∷ w ∷ more
+    first = cc
+
+    go : IsVersion b.version → ⊥
+    go (inl one) =
+        let none : version_words b.version ≡ [] = rw one refl in
+        let both : ◌≡◌ {A = Words} [] (codes "version" ∷ codes "2" ∷ w ∷ more) = sym none ∙ first in
+        cc
+    go (inr two) =
+        let some : version_words b.version ≡ codes "version" ∷ codes "2" ∷ [] = rw two refl in
+        let both : ◌≡◌ {A = Words} (codes "version" ∷ codes "2" ∷ []) (codes "version" ∷ codes "2" ∷ w ∷ more) =
+        sym some ∙ first in
+        cc
+
+newer : BodyFits (body 2 [])
+newer = record { version = inr refl; lines = tt }
+
+older : BodyFits (body 1 [])
+older = record { version = inl refl; lines = tt }
+
+free_head : (front : Words) → bars front ≡ 0 → FreeFront BreaksCell [] front
+free_head front none = free_front [] front (few_total 16 front (omega (arith, none))) (λ a b more q has. has)
+
+-- what a head line may say after the word `2`
+abbrev nothing_more : Words → Result ℕ TableKind
+nothing_more ws = line_ends ws >>= λ _. Ok 2
+
+module _ (u : Unread) where
+  abbrev FaultyHead : Words → ℕ → TableKind → Type 0
+  FaultyHead ws n k = FaultBehind table_grammar [] (line_places u.line ws (lines_places u.lines u.end)) n k
+
+  -- a fault at a place of the head line, after what may stand before it
+  at_head :
+      (front : Words) (at : Option (List ℕ)) (ws rest : Words) (k : TableKind) → ws ≡ front ++ from at rest
+      → BeginsLine table_grammar table_rows [] front → bars front ≡ 0 → NoLine table_grammar table_rows [] front at
+      → UnfitTable (map word front) (item_at at) k → FaultyHead ws u.line k
+  at_head front at ws rest k parts begins none no_line unfit =
+      stops_in_line table_grammar table_rows [] closed spelled BreaksCell given given [] u.line ws
+      (lines_places u.lines u.end) front at rest k parts begins (free_head front none)
+      (unfit_fault table_grammar table_rows [] closed spelled BreaksCell given given [] front at k no_line unfit)
+
+  no_number_yet : (front : Words) (w : List ℕ) → WantsNumber (map word (front ++ w ∷ codes "2" ∷ [])) → ⊥
+  no_number_yet [] w h = cc
+  no_number_yet (v ∷ []) w h = cc
+  no_number_yet (v ∷ x ∷ front) w h = cc
+
+  number_stops :
+      (ws : Words) (k : TableKind) → version_number ws ≡ Err k → FaultyHead (codes "version" ∷ ws) u.line k
+  number_stops [] k e =
+      let kind : k ≡ Number = cc in
+      at_head version_front None (codes "version" ∷ []) [] k refl (body 2 [], codes "2" ∷ [], end_row ∷ [], newer, refl)
+      refl (no_number_but_two None (λ w h. cc)) (inl (refl, kind))
+  number_stops (w ∷ ws) k e = go (bytes_eq w (codes "2")) refl e
+    where
+      left : (ws : Words) → nothing_more ws ≡ Err k
+          → FaultyHead (codes "version" ∷ codes "2" ∷ ws) u.line k
+      left [] e = absurd cc
+      left (x ∷ ws) e =
+          let kind : k ≡ UnknownWord = cc in
+          at_head two_front (Some x) (codes "version" ∷ codes "2" ∷ x ∷ ws) ws k refl
+          (body 2 [], [], end_row ∷ [], newer, refl) refl (no_third x)
+          (inr (λ h. no_number_yet [] (codes "version") h, kind))
+
+      go : (b : Bool) → bytes_eq w (codes "2") ≡ b
+          → cond b (nothing_more ws) (Err Number) ≡ Err k → FaultyHead (codes "version" ∷ w ∷ ws) u.line k
+      go true h e =
+          subst (λ (x : List ℕ). FaultyHead (codes "version" ∷ x ∷ ws) u.line k) (sym (is_word w (codes "2") h))
+          (left ws e)
+      go false h e =
+          let kind : k ≡ Number = cc in
+          at_head version_front (Some w) (codes "version" ∷ w ∷ ws) ws k refl
+          (body 2 [], codes "2" ∷ [], end_row ∷ [], newer, refl) refl
+          (no_number_but_two (Some w) (λ x q. (let same : w ≡ x = cc in
+          subst (λ (y : List ℕ). bytes_eq y (codes "2") ≡ false) same h)))
+          (inl (refl, kind))
+
+  head_stops : (ws : Words) (k : TableKind) → version_at ws ≡ Err k → FaultyHead ws u.line k
+  head_stops [] k e = absurd cc
+  head_stops (w ∷ ws) k e = go (bytes_eq w (codes "version")) refl e
+    where
+      go : (b : Bool) → bytes_eq w (codes "version") ≡ b
+          → cond b (version_number ws) (Err UnknownWord) ≡ Err k → FaultyHead (w ∷ ws) u.line k
+      go true h e =
+          subst (λ (x : List ℕ). FaultyHead (x ∷ ws) u.line k) (sym (is_word w (codes "version") h))
+          (number_stops ws k e)
+      go false h e =
+          let kind : k ≡ UnknownWord = cc in
+          at_head [] (Some w) (w ∷ ws) ws k refl (body 1 [], [], end_row ∷ [], older, refl) refl (no_first w h)
+          (inr (λ q. cc, kind))
+
+  -- a head line that is right, and a fault behind it
+  head_passes :
+      (v : ℕ) (n : ℕ) (k : TableKind) → IsVersion v
+      → FaultBehind table_grammar (version_words v ∷ []) (lines_places u.lines u.end) n k
+      → FaultyHead (version_words v) n k
+  head_passes v n k known h =
+      behind_line table_grammar table_rows [] closed spelled BreaksCell given given [] u.line (version_words v)
+      (lines_places u.lines u.end) n k (body v [], end_row ∷ [], record { version = known; lines = tt }, refl)
+      (free_head (version_words v) (no_bars known)) h
+    where
+      no_bars : IsVersion v → bars (version_words v) ≡ 0
+      no_bars (inl one) = rw one refl
+      no_bars (inr two) = rw two refl
 
 -- A refusal in reading a table is at the first place at fault, and has its kind.
 pub table_stops :
     (name : List ℕ) (u : Unread) (f : Fault) → table_at name u ≡ Err f
     → FirstFault table_grammar (places u) f.line f.kind
 unfolding table_at
-table_stops name u f e = first_fault table_grammar (places u) f.line f.kind (go u.words e)
+table_stops name u f e = first_fault table_grammar (places u) f.line f.kind (go (version_at u.words) refl e)
   where
-    no_first : (w : List ℕ) → NoLine table_grammar table_rows [] [] (Some w)
-    no_first w cells more others all h = cc
-
     go :
-        (ws : Words) → (on_line u.line (line_ends ws) >>= λ _. table_lines (empty_table name) u.lines u.end) ≡ Err f
-        → FaultBehind table_grammar [] (line_places u.line ws (lines_places u.lines u.end)) f.line f.kind
-    go (w ∷ ws) e =
-        let same = fault_line {X = Table × Unread} u.line UnknownWord f e in
-        let here = stops_in_line table_grammar table_rows [] closed spelled BreaksCell given given [] u.line (w ∷ ws)
-        (lines_places u.lines u.end) [] (Some w) ws UnknownWord refl begins
-        (free_front [] [] (few_total 16 [] (omega arith)) (λ a b more q has. has))
-        (unfit_fault table_grammar table_rows [] closed spelled BreaksCell given given [] [] (Some w) UnknownWord
-        (no_first w) refl) in
-        subst (λ (x : ℕ).
-        FaultBehind table_grammar [] (line_places u.line (w ∷ ws) (lines_places u.lines u.end)) x f.kind) same.0
-        (subst (λ (x : TableKind).
-        FaultBehind table_grammar [] (line_places u.line (w ∷ ws) (lines_places u.lines u.end)) u.line x)
-        same.1 here)
-      where
-        begins : BeginsLine table_grammar table_rows [] []
-        begins = ([], [], end_row ∷ [], tt, refl)
-    go [] e =
-        behind_line table_grammar table_rows [] closed spelled BreaksCell given given [] u.line []
-        (lines_places u.lines u.end) f.line f.kind ([], end_row ∷ [], tt, refl)
-        (free_front [] [] (few_total 16 [] (omega arith)) (λ a b more q has. has))
-        (lines_stop [] (empty_table name) u.lines u.end f
-        (record { all = tt; whole = empty_whole name; marks = marks_empty name }) e)
+        (r : Result ℕ TableKind) → version_at u.words ≡ r
+        → (on_line u.line r >>= λ version. table_lines (empty_table name version) u.lines u.end) ≡ Err f
+        → FaultyHead u u.words f.line f.kind
+    go (Err k) h e =
+        let same = fault_line {X = Table × Unread} u.line k f e in
+        subst (λ (x : ℕ). FaultyHead u u.words x f.kind) same.0
+        (subst (λ (x : TableKind). FaultyHead u u.words u.line x) same.1 (head_stops u u.words k h))
+    go (Ok v) h e =
+        let head = version_takes u.words v h in
+        subst (λ (x : Words). FaultyHead u x f.line f.kind) (sym head.0)
+        (head_passes u v f.line f.kind head.1
+        (lines_stop v [] (empty_table name v) u.lines u.end f head.1
+        (record { same = refl; all = tt; whole = empty_whole name v; marks = marks_empty name v head.1 }) e))

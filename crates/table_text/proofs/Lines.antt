@@ -6,7 +6,7 @@ use Rattle.table_text.specs.declared.fault.TableKind.TheVariants.{NoEnd}
 use Rattle.table_text.specs.declared.fault.TableFault.{TableFault}
 use Rattle.table_text.specs.declared.fault.TableFault.TheVariants as faults
 use Rattle.fb_text.specs.Places.{Words}
-use Rattle.table_text.specs.Reading.{line_ends, table_line, table_lines, table_at, Fails, FailsTable, StaysOnLine}
+use Rattle.table_text.specs.Reading.{version_at, table_line, table_lines, table_at, Fails, FailsTable, StaysOnLine}
 
 abbrev at : ℕ → Words → List Line → ℕ → Unread
 at n ws ls end = record { line = n; words = ws; lines = ls; end = end }
@@ -49,13 +49,13 @@ stops t n ws (l ∷ ls) end (faults.Bad line kind) h e = rw (e.0, e.1) refl
 
 -- after the name
 pub begins :
-    (name : List ℕ) (u v : Unread) → line_ends u.words ≡ Ok tt → StaysOnLine u v
-    → table_lines (empty_table name) v.lines v.end ≡ table_at name u
+    (name : List ℕ) (version : ℕ) (u v : Unread) → version_at u.words ≡ Ok version → StaysOnLine u v
+    → table_lines (empty_table name version) v.lines v.end ≡ table_at name u
 unfolding table_at
-begins name u v e stays = rw (e, stays.lines, stays.end) refl
+begins name version u v e stays = rw (e, stays.lines, stays.end) refl
 
 pub does_not_begin :
-    (name : List ℕ) (u : Unread) (fault : TableFault) → Fails fault u.line (line_ends u.words)
+    (name : List ℕ) (u : Unread) (fault : TableFault) → Fails fault u.line (version_at u.words)
     → FailsTable fault (table_at name u)
 unfolding table_at
 does_not_begin name u faults.NoMemory e = tt

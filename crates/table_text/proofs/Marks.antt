@@ -14,11 +14,12 @@ use Rattle.class_relation.specs.declared.SnoopAction.{SnoopAction}
 use Rattle.moesi_state.specs.States.{state_number}
 use Rattle.class_relation.specs.Tables.{local_number, local_cell, answer_cell, local_cell_count, answer_cell_count}
 use Rattle.bus_signals.specs.Signals.{event_number}
-use Rattle.class_relation.specs.Tables.{Table, empty_table, locals_of, answers_of}
+use Rattle.class_relation.specs.Tables.{Table, empty_table, said_locals, said_answers}
 use Rattle.class_words.specs.Words.{state_word, local_event_word, bus_event_word, state_of, local_event_of, bus_event_of}
-use Rattle.table_text.specs.Spelling.{CellLine, local, answer, cell_words, HasAlternative, HasLine, entered}
+use Rattle.table_text.specs.Spelling.{CellLine, local, answer, cell_words, HasAlternative, IsVersion, version_words, HasLine, entered}
 use Rattle.class_words.proofs.WordLaws.{state_again, local_event_again, bus_event_again}
 use Rattle.table_text.proofs.EventWords.{no_local_event}
+use Rattle.table_text.proofs.Versions.{head_no_state}
 use Rattle.table_text.proofs.TableLaws.{HasAllCells, place_local, place_snoop}
 use Rattle.bus_signals.proofs.Events.{bus_below, local_below, same_event-eq, same_kind-eq}
 
@@ -117,14 +118,14 @@ module _ {X : Type 0} (rows : List (List X)) (p q : ℕ) (alts : List X) (lt : p
 
 pub record Marks (t : Table) (done : List Words) : Type 0 where
   pub local_free :
-      (s : State) (e : LocalEvent) → locals_of t s e ≡ [] → HasLine done (state_word s) (local_event_word e) → ⊥
+      (s : State) (e : LocalEvent) → said_locals t s e ≡ [] → HasLine done (state_word s) (local_event_word e) → ⊥
   pub local_used :
-      (s : State) (e : LocalEvent) → is_empty (locals_of t s e) ≡ false
+      (s : State) (e : LocalEvent) → is_empty (said_locals t s e) ≡ false
       → HasLine done (state_word s) (local_event_word e)
   pub snoop_free :
-      (s : State) (e : BusEvent) → answers_of t s e ≡ [] → HasLine done (state_word s) (bus_event_word e) → ⊥
+      (s : State) (e : BusEvent) → said_answers t s e ≡ [] → HasLine done (state_word s) (bus_event_word e) → ⊥
   pub snoop_used :
-      (s : State) (e : BusEvent) → is_empty (answers_of t s e) ≡ false → HasLine done (state_word s) (bus_event_word e)
+      (s : State) (e : BusEvent) → is_empty (said_answers t s e) ≡ false → HasLine done (state_word s) (bus_event_word e)
 
 local_marks :
     (t : Table) (done : List Words) (s : State) (e : LocalEvent) (alts : List LocalAction) → HasAllCells t
@@ -145,7 +146,7 @@ local_marks t done s e alts whole m some = record {
 }
   where
     free :
-        (r : State) (a : LocalEvent) → locals_of (entered t (local s e alts)) r a ≡ []
+        (r : State) (a : LocalEvent) → said_locals (entered t (local s e alts)) r a ≡ []
         → HasLine done (state_word r) (local_event_word a)
         ⊎ ((more : Words) × (cell_words (local s e alts) ≡ state_word r ∷ local_event_word a ∷ more)) → ⊥
     free r a none (inl h) =
@@ -163,7 +164,7 @@ local_marks t done s e alts whole m some = record {
         b.0 (sym (ap (λ (x : State). local_cell x e) s_is ∙ ap (λ (x : LocalEvent). local_cell r x) e_is))
 
     either_used :
-        (r : State) (a : LocalEvent) → (local_cell r a ≡ local_cell s e) ⊎ (is_empty (locals_of t r a) ≡ false)
+        (r : State) (a : LocalEvent) → (local_cell r a ≡ local_cell s e) ⊎ (is_empty (said_locals t r a) ≡ false)
         → HasLine (done ++ cell_words (local s e alts) ∷ []) (state_word r) (local_event_word a)
     either_used r a (inr h) =
         has_push done (cell_words (local s e alts)) (state_word r) (local_event_word a) (m.local_used r a h)
@@ -175,7 +176,7 @@ local_marks t done s e alts whole m some = record {
         (has_last done (state_word s) (local_event_word e) _))
 
     other :
-        (r : State) (a : BusEvent) → answers_of t r a ≡ []
+        (r : State) (a : BusEvent) → said_answers t r a ≡ []
         → HasLine done (state_word r) (bus_event_word a)
         ⊎ ((more : Words) × (cell_words (local s e alts) ≡ state_word r ∷ bus_event_word a ∷ more)) → ⊥
     other r a none (inl h) = m.snoop_free r a none h
@@ -202,7 +203,7 @@ snoop_marks t done s e alts whole m some = record {
 }
   where
     free :
-        (r : State) (a : BusEvent) → answers_of (entered t (answer s e alts)) r a ≡ []
+        (r : State) (a : BusEvent) → said_answers (entered t (answer s e alts)) r a ≡ []
         → HasLine done (state_word r) (bus_event_word a)
         ⊎ ((more : Words) × (cell_words (answer s e alts) ≡ state_word r ∷ bus_event_word a ∷ more)) → ⊥
     free r a none (inl h) =
@@ -220,7 +221,7 @@ snoop_marks t done s e alts whole m some = record {
         b.0 (sym (ap (λ (x : State). answer_cell x e) s_is ∙ ap (λ (x : BusEvent). answer_cell r x) e_is))
 
     either_used :
-        (r : State) (a : BusEvent) → (answer_cell r a ≡ answer_cell s e) ⊎ (is_empty (answers_of t r a) ≡ false)
+        (r : State) (a : BusEvent) → (answer_cell r a ≡ answer_cell s e) ⊎ (is_empty (said_answers t r a) ≡ false)
         → HasLine (done ++ cell_words (answer s e alts) ∷ []) (state_word r) (bus_event_word a)
     either_used r a (inr h) =
         has_push done (cell_words (answer s e alts)) (state_word r) (bus_event_word a) (m.snoop_used r a h)
@@ -232,7 +233,7 @@ snoop_marks t done s e alts whole m some = record {
         (has_last done (state_word s) (bus_event_word e) _))
 
     other :
-        (r : State) (a : LocalEvent) → locals_of t r a ≡ []
+        (r : State) (a : LocalEvent) → said_locals t r a ≡ []
         → HasLine done (state_word r) (local_event_word a)
         ⊎ ((more : Words) × (cell_words (answer s e alts) ≡ state_word r ∷ local_event_word a ∷ more)) → ⊥
     other r a none (inl h) = m.local_free r a none h
@@ -247,26 +248,27 @@ marks_push t done (local s e alts) whole m some = local_marks t done s e alts wh
 marks_push t done (answer s e alts) whole m some = snoop_marks t done s e alts whole m some
 
 -- no line names a cell after the rest of the head line
-pub marks_empty : (name : List ℕ) → Marks (empty_table name) ([] ∷ [])
-marks_empty name = record {
-  local_free = λ s e none has. nothing (state_word s) (local_event_word e) has;
+pub marks_empty :
+    (name : List ℕ) (version : ℕ) → IsVersion version → Marks (empty_table name version) (version_words version ∷ [])
+marks_empty name version known = record {
+  local_free = λ s e none has. nothing s (local_event_word e) has;
   local_used =
       λ s e used.
-      absurd (let none : is_empty (locals_of (empty_table name) s e) ≡ true = no_local s e in
+      absurd (let none : is_empty (said_locals (empty_table name version) s e) ≡ true = no_local s e in
       let both : true ≡ false = sym none ∙ used in cc);
-  snoop_free = λ s e none has. nothing (state_word s) (bus_event_word e) has;
+  snoop_free = λ s e none has. nothing s (bus_event_word e) has;
   snoop_used =
       λ s e used.
-      absurd (let none : is_empty (answers_of (empty_table name) s e) ≡ true = no_snoop s e in
+      absurd (let none : is_empty (said_answers (empty_table name version) s e) ≡ true = no_snoop s e in
       let both : true ≡ false = sym none ∙ used in cc);
 }
   where
-    nothing : (v w : List ℕ) → HasLine ([] ∷ []) v w → ⊥
-    nothing v w (inl (more, e)) = cc
-    nothing v w (inr h) = h
+    nothing : (s : State) (w : List ℕ) → HasLine (version_words version ∷ []) (state_word s) w → ⊥
+    nothing s w (inl (more, e)) = head_no_state version known s (w ∷ more) e
+    nothing s w (inr h) = h
 
-    no_local : (s : State) (e : LocalEvent) → is_empty (locals_of (empty_table name) s e) ≡ true
+    no_local : (s : State) (e : LocalEvent) → is_empty (said_locals (empty_table name version) s e) ≡ true
     no_local s e = ap is_empty (get_or-replicate local_cell_count (local_cell s e) [] [] (place_local s e))
 
-    no_snoop : (s : State) (e : BusEvent) → is_empty (answers_of (empty_table name) s e) ≡ true
+    no_snoop : (s : State) (e : BusEvent) → is_empty (said_answers (empty_table name version) s e) ≡ true
     no_snoop s e = ap is_empty (get_or-replicate answer_cell_count (answer_cell s e) [] [] (place_snoop s e))

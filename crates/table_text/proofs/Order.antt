@@ -1,5 +1,5 @@
 -- The cells of a table, in cell order, spell the table.
-use Rattle.std.proofs.Common.{◌≡◌, ℕ, zero, suc, ◌<◌, ◌+◌, ◌*◌, Bool, true, ◌&&◌, List, [], ◌∷◌, ◌++◌, length, get_or, refl, sym, ap, subst, subst₂, ◌∙◌, arith}
+use Rattle.std.proofs.Common.{◌≡◌, ℕ, zero, suc, ◌<◌, ◌+◌, ◌*◌, Bool, true, false, ◌&&◌, List, [], ◌∷◌, ◌++◌, length, get_or, refl, sym, ap, subst, subst₂, ◌∙◌, arith}
 use Rattle.std.specs.Prelude.{slice_set, replicate, flat_map, ◌==◌}
 use Rattle.moesi_state.specs.declared.State.{State}
 use Rattle.bus_signals.specs.declared.LocalEvent.{LocalEvent}
@@ -8,11 +8,13 @@ use Rattle.bus_signals.specs.Signals.{event_number}
 use Rattle.class_relation.specs.declared.LocalAction.{LocalAction}
 use Rattle.class_relation.specs.declared.SnoopAction.{SnoopAction}
 use Rattle.moesi_state.specs.States.{state_number, all_states}
-use Rattle.class_relation.specs.Tables.{Table, local_number, local_events, bus_events, local_cell_count, answer_cell_count, empty_table, local_cell, answer_cell, locals_of, answers_of, IsWhole}
+use Rattle.class_relation.specs.Tables.{Table, local_number, local_events, bus_events, local_cell_count, answer_cell_count, empty_table, local_cell, answer_cell, said_locals, said_answers, IsWhole}
 use Rattle.class_relation.proofs.CellsFit.{fits-at}
 use Rattle.class_relation.proofs.Spelling.{both_true}
 use Rattle.std.proofs.lemmas.Bool.{eqb-true}
-use Rattle.table_text.specs.Spelling.{CellLine, entered, all_entered, table_of}
+use Rattle.std.specs.List.{AllByRecursion, list_all}
+use Rattle.class_relation.specs.Versions.{is_local_said, is_answer_said, is_bus_said}
+use Rattle.table_text.specs.Spelling.{CellLine, IsSaidLocal, body, entered, all_entered, table_of}
 use Rattle.table_text.specs.Correct.{AllStand}
 use Rattle.table_text.specs.Writing.{local_given, snoop_given, local_line, snoop_line, state_lines, cells_of}
 use Rattle.table_text.proofs.TableLaws.{place_local, place_snoop}
@@ -54,7 +56,8 @@ all_there {X} (suc n) (r ∷ rs) e = ap (λ (v : List (List X)). r ∷ v) (all_t
 
 -- the table with its first cells
 stage : Table → ℕ → ℕ → Table
-stage t n m = record { name = t.name; locals = partly n t.locals; answers = partly m t.answers }
+stage t n m =
+    record { name = t.name; version = t.version; locals = partly n t.locals; answers = partly m t.answers }
 
 all_entered_append : (t : Table) (a b : List CellLine) → all_entered t (a ++ b) ≡ all_entered (all_entered t a) b
 all_entered_append t [] b = refl
@@ -77,6 +80,40 @@ then_ t n m i j k l a b x y = record {
   enters = all_entered_append (stage t n m) a b ∙ (ap (λ (u : Table). all_entered u b) x.enters ∙ y.enters);
 }
 
+-- the alternatives that a whole table says are of its version
+each_said :
+    (version : ℕ) (alts : List LocalAction) → list_all (λ (a : LocalAction). is_bus_said version a.bus) alts ≡ true
+    → AllByRecursion (λ (a : LocalAction). is_bus_said version a.bus ≡ true) alts
+each_said version [] h = tt
+each_said version (a ∷ alts) h =
+    let both = both_true (is_bus_said version a.bus)
+    (list_all (λ (a : LocalAction). is_bus_said version a.bus) alts) h in
+    (both.0, each_said version alts both.1)
+
+local_said :
+    (t : Table) → IsWhole t → (s : State) (e : LocalEvent) (alts : List LocalAction) → 0 < length alts
+    → said_locals t s e ≡ alts → IsSaidLocal t.version e alts
+local_said t p s e alts some is = record {
+  known = go (is_local_said t.version e) refl;
+  buses =
+      each_said t.version alts
+      (subst (λ (xs : List LocalAction). list_all (λ (a : LocalAction). is_bus_said t.version a.bus) xs ≡ true) is
+      (p.cells.version.buses s e));
+}
+  where
+    go : (b : Bool) → is_local_said t.version e ≡ b → is_local_said t.version e ≡ true
+    go true h = h
+    go false h = let none : alts ≡ [] = sym is ∙ p.cells.version.locals s e h in absurd (omega (arith, some, ap length none))
+
+snoop_said :
+    (t : Table) → IsWhole t → (s : State) (e : BusEvent) (alts : List SnoopAction) → 0 < length alts
+    → said_answers t s e ≡ alts → is_answer_said t.version e ≡ true
+snoop_said t p s e alts some is = go (is_answer_said t.version e) refl
+  where
+    go : (b : Bool) → is_answer_said t.version e ≡ b → is_answer_said t.version e ≡ true
+    go true h = h
+    go false h = let none : alts ≡ [] = sym is ∙ p.cells.version.answers s e h in absurd (omega (arith, some, ap length none))
+
 local_leads :
     (t : Table) (m : ℕ) (s : State) (e : LocalEvent) → IsWhole t → (n : ℕ) → local_cell s e ≡ n
     → (alts : List LocalAction) → get_or t.locals n [] ≡ alts → Leads t n m (n + 1) m (local_given s e alts)
@@ -84,7 +121,7 @@ unfolding stage
 local_leads t m s e p n at [] h = record {
   stand = tt;
   enters =
-      ap (λ (v : List (List LocalAction)). record { name = t.name; locals = v; answers = partly m t.answers })
+      ap (λ (v : List (List LocalAction)). record { name = t.name; version = t.version; locals = v; answers = partly m t.answers })
       (skip_there n t.locals h ∙ ap (λ (k : ℕ). partly k t.locals) (omega arith));
 }
 local_leads t m s e p n at (a ∷ more) h = record {
@@ -93,10 +130,11 @@ local_leads t m s e p n at (a ∷ more) h = record {
       ap (λ (k : ℕ). get_or (partly n t.locals) k []) at ∙ free_there n t.locals,
       omega arith,
       (let few = fits-at t.locals n p.cells.few_locals in omega (arith, few, ap length h)),
+      local_said t p s e (a ∷ more) (omega arith) (ap (λ (k : ℕ). get_or t.locals k []) at ∙ h),
     ),
     tt,
   );
-  enters = ap (λ (v : List (List LocalAction)). record { name = t.name; locals = v; answers = partly m t.answers })
+  enters = ap (λ (v : List (List LocalAction)). record { name = t.name; version = t.version; locals = v; answers = partly m t.answers })
       (ap (λ (k : ℕ). slice_set (partly n t.locals) k (a ∷ more)) at
       ∙ (ap (λ (v : List LocalAction). slice_set (partly n t.locals) n v) (sym h)
       ∙ (set_there n t.locals (omega (arith, place_local s e, p.cells.locals, at))
@@ -110,7 +148,7 @@ unfolding stage
 snoop_leads t n s e p m at [] h = record {
   stand = tt;
   enters =
-      ap (λ (v : List (List SnoopAction)). record { name = t.name; locals = partly n t.locals; answers = v })
+      ap (λ (v : List (List SnoopAction)). record { name = t.name; version = t.version; locals = partly n t.locals; answers = v })
       (skip_there m t.answers h ∙ ap (λ (k : ℕ). partly k t.answers) (omega arith));
 }
 snoop_leads t n s e p m at (a ∷ more) h = record {
@@ -119,10 +157,11 @@ snoop_leads t n s e p m at (a ∷ more) h = record {
       ap (λ (k : ℕ). get_or (partly m t.answers) k []) at ∙ free_there m t.answers,
       omega arith,
       (let few = fits-at t.answers m p.cells.few_answers in omega (arith, few, ap length h)),
+      snoop_said t p s e (a ∷ more) (omega arith) (ap (λ (k : ℕ). get_or t.answers k []) at ∙ h),
     ),
     tt,
   );
-  enters = ap (λ (v : List (List SnoopAction)). record { name = t.name; locals = partly n t.locals; answers = v })
+  enters = ap (λ (v : List (List SnoopAction)). record { name = t.name; version = t.version; locals = partly n t.locals; answers = v })
       (ap (λ (k : ℕ). slice_set (partly m t.answers) k (a ∷ more)) at
       ∙ (ap (λ (v : List SnoopAction). slice_set (partly m t.answers) m v) (sym h)
       ∙ (set_there m t.answers (omega (arith, place_snoop s e, p.cells.answers, at))
@@ -134,14 +173,14 @@ one_local :
     → Leads t n m i m (local_line t s e)
 one_local t m s e n i p at next =
     subst (λ (k : ℕ). Leads t n m k m (local_line t s e)) (sym next)
-    (local_leads t m s e p n at (locals_of t s e) (ap (λ (k : ℕ). get_or t.locals k []) (sym at)))
+    (local_leads t m s e p n at (said_locals t s e) (ap (λ (k : ℕ). get_or t.locals k []) (sym at)))
 
 one_snoop :
     (t : Table) (n : ℕ) (s : State) (e : BusEvent) (m j : ℕ) → IsWhole t → answer_cell s e ≡ m → j ≡ m + 1
     → Leads t n m n j (snoop_line t s e)
 one_snoop t n s e m j p at next =
     subst (λ (k : ℕ). Leads t n m n k (snoop_line t s e)) (sym next)
-    (snoop_leads t n s e p m at (answers_of t s e) (ap (λ (k : ℕ). get_or t.answers k []) (sym at)))
+    (snoop_leads t n s e p m at (said_answers t s e) (ap (λ (k : ℕ). get_or t.answers k []) (sym at)))
 
 -- Whether these local events have the numbers from this one on, and the same of bus events and of states.
 locals_count : ℕ → List LocalEvent → Bool
@@ -245,7 +284,7 @@ cells_lead : (t : Table) → IsWhole t → Leads t 0 0 local_cell_count answer_c
 unfolding cells_of states_count
 cells_lead t p = states_lead t all_states 0 p refl
 
-stage_first : (t : Table) → IsWhole t → stage t 0 0 ≡ empty_table t.name
+stage_first : (t : Table) → IsWhole t → stage t 0 0 ≡ empty_table t.name t.version
 unfolding stage
 stage_first t p =
     rw (none_yet local_cell_count t.locals p.cells.locals, none_yet answer_cell_count t.answers p.cells.answers) refl
@@ -255,10 +294,10 @@ unfolding stage
 stage_last t p =
     rw (all_there local_cell_count t.locals p.cells.locals, all_there answer_cell_count t.answers p.cells.answers) refl
 
-pub cells_stand : (t : Table) → IsWhole t → AllStand (empty_table t.name) (cells_of t)
+pub cells_stand : (t : Table) → IsWhole t → AllStand (empty_table t.name t.version) (cells_of t)
 cells_stand t p = let h = cells_lead t p in subst (λ (u : Table). AllStand u (cells_of t)) (stage_first t p) h.stand
 
-pub cells_spell : (t : Table) → IsWhole t → table_of t.name (cells_of t) ≡ t
+pub cells_spell : (t : Table) → IsWhole t → table_of t.name (body t.version (cells_of t)) ≡ t
 cells_spell t p =
     let h = cells_lead t p in
     ap (λ (u : Table). all_entered u (cells_of t)) (sym (stage_first t p)) ∙ (h.enters ∙ stage_last t p)

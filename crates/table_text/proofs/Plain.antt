@@ -15,7 +15,7 @@ use Rattle.class_relation.specs.declared.LocalAction.{LocalAction}
 use Rattle.class_relation.specs.declared.SnoopAction.{SnoopAction}
 use Rattle.class_relation.specs.Names.{is_lower_case, is_digit, is_name_byte, is_name}
 use Rattle.class_words.specs.Words.{state_word, local_event_word, bus_event_word, outcome_word}
-use Rattle.table_text.specs.Spelling.{bar, bus_words, local_words, signal_words, snoop_words, alternative_words, CellLine, local, answer, cell_words}
+use Rattle.table_text.specs.Spelling.{bar, bus_words, local_words, signal_words, snoop_words, alternative_words, CellLine, local, answer, cell_words, IsVersion, version_words}
 use Rattle.bus_signals.proofs.Events.{each_bus, each_local}
 
 abbrev AreWords : Words → Type 0
@@ -136,3 +136,9 @@ pub name_plain : (n : List ℕ) → is_name n ≡ true → is_word n ≡ true
 name_plain [] h = absurd (let parts = and_parts (leb 0 32 && is_lower_case 0) true h in cc)
 name_plain (c ∷ n) h =
     name_bytes (c ∷ n) (and_parts (leb (length (c ∷ n)) 32 && is_lower_case c) (list_all is_name_byte (c ∷ n)) h).1
+
+-- ---- the rest of a head line
+
+pub version_plain : (version : ℕ) → IsVersion version → AreWords (version_words version)
+version_plain version (inl one) = rw one tt
+version_plain version (inr two) = rw two (refl, (refl, tt))

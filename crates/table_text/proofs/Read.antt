@@ -7,7 +7,7 @@ use Rattle.class_relation.specs.Tables.{Table, empty_table}
 use Rattle.table_text.specs.declared.fault.TableFault.{TableFault}
 use Rattle.table_text.specs.declared.fault.TableFault.TheVariants as faults
 use Rattle.table_text.specs.Reading.{Fault, GivesTable, table_at}
-use Rattle.table_text.specs.Spelling.{CellLine, table_items, table_of}
+use Rattle.table_text.specs.Spelling.{CellLine, IsVersion, body, table_items, table_of}
 use Rattle.table_text.specs.Correct.{IsTable, AllStand, IsReadAs, IsFirstFault}
 use Rattle.table_text.proofs.TableLaws.{table_takes}
 use Rattle.table_text.proofs.Again.{table_again}
@@ -21,19 +21,21 @@ is_spelled name u left (Err e) given = tt
 
 pub is_read :
     (name : List ℕ) (u left : Unread) (r : Result Table TableFault) → GivesTable r left (table_at name u)
-    → (cells : List CellLine) (rest : List Item) → AllStand (empty_table name) cells
-    → items (places u) ≡ table_items cells ++ rest → IsReadAs r (table_of name cells)
-is_read name u left (Ok t) given cells rest stand e =
-    let found = table_again name u cells rest stand e in
-    let both : ◌≡◌ {A = Result (Table × Unread) Fault} (Ok (t, left)) (Ok (table_of name cells, found.left)) =
+    → (version : ℕ) (cells : List CellLine) (rest : List Item) → IsVersion version
+    → AllStand (empty_table name version) cells → items (places u) ≡ table_items (body version cells) ++ rest
+    → IsReadAs r (table_of name (body version cells))
+is_read name u left (Ok t) given version cells rest known stand e =
+    let found = table_again name u version cells rest known stand e in
+    let whole : Table = table_of name (body version cells) in
+    let both : ◌≡◌ {A = Result (Table × Unread) Fault} (Ok (t, left)) (Ok (whole, found.left)) =
     sym given ∙ found.value in
-    let same : (t, left) ≡ (table_of name cells, found.left) = cc in
+    let same : (t, left) ≡ (whole, found.left) = cc in
     ap (λ (x : Table × Unread). x.0) same
-is_read name u left (Err faults.NoMemory) given cells rest stand e = tt
-is_read name u left (Err (faults.Bad line kind)) given cells rest stand e =
-    let found = table_again name u cells rest stand e in
+is_read name u left (Err faults.NoMemory) given version cells rest known stand e = tt
+is_read name u left (Err (faults.Bad line kind)) given version cells rest known stand e =
+    let found = table_again name u version cells rest known stand e in
     let both : ◌≡◌ {A = Result (Table × Unread) Fault} (Err (record { line = line; kind = kind }))
-    (Ok (table_of name cells, found.left)) = sym given ∙ found.value in
+    (Ok (table_of name (body version cells), found.left)) = sym given ∙ found.value in
     absurd cc
 
 pub is_first :

@@ -12,13 +12,15 @@ use Rattle.class_relation.specs.declared.LocalAction.{LocalAction}
 use Rattle.class_relation.specs.declared.SnoopAction.{SnoopAction}
 use Rattle.table_text.specs.declared.fault.TableKind.{TableKind}
 use Rattle.table_text.specs.declared.fault.TableKind.TheVariants.{UnknownWord}
-use Rattle.class_words.specs.Words.{state_word, outcome_word, outcome_of, state_of, bus_event_of}
+use Rattle.class_words.specs.Words.{state_word, bus_event_word, outcome_word, outcome_of, state_of}
 use Rattle.fb_text.specs.Places.{Words}
-use Rattle.table_text.specs.Reading.{◌>>=◌, spelled_by, bar_or_end, local_action, bus_event_at, local_rest, local_at, signal_at, snoop_rest, snoop_at}
+use Rattle.table_text.specs.Reading.{◌>>=◌, spelled_by, bar_or_end, local_action, bus_event_at, bus_event_in, local_rest, local_at, signal_at, snoop_rest, snoop_at}
 use Rattle.table_text.specs.Spelling.{bar, local_words, signal_words, snoop_words}
 use Rattle.fb_text.proofs.LineItems.{from}
-use Rattle.class_words.proofs.WordLaws.{state_is, bus_event_is, outcome_is, outcome_again}
-use Rattle.table_text.proofs.Alternatives.{answer_of, signal_takes}
+use Rattle.class_relation.specs.Versions.{is_answer_said, is_bus_said}
+use Rattle.class_words.proofs.WordLaws.{state_is, outcome_is, outcome_again}
+use Rattle.table_text.proofs.Versions.{bus_in_is}
+use Rattle.table_text.proofs.Alternatives.{answer_of, AnyAnswer, signal_takes}
 
 -- what stands before, the word at which it stops or the end of the line, why, and that it stops there however the line
 -- goes on
@@ -48,8 +50,13 @@ at_word :
 at_word missing v front None kind h = absurd h
 at_word missing v front (Some w) kind h = h
 
-abbrev pub IsFrontOf : {A : Type 0} → (A → Words) → Words → Type 0
-IsFrontOf {A} f front = (a : A) × (more : Words) × (f a ≡ front ++ more)
+-- an alternative that may be said begins with these words
+abbrev pub IsFrontOf : {A : Type 0} → (A → Type 0) → (A → Words) → Words → Type 0
+IsFrontOf {A} Said f front = (a : A) × (more : Words) × (f a ≡ front ++ more) × Said a
+
+-- the transaction of an alternative is one that this version may say
+abbrev pub SaidLocal : ℕ → LocalAction → Type 0
+SaidLocal version a = is_bus_said version a.bus ≡ true
 
 abbrev pub barred : Bool → Words → Result (Bool × Words) TableKind
 barred x us = cond x (Ok (true, us)) (Err UnknownWord)
@@ -64,82 +71,94 @@ abbrev pub any_local : LocalAction
 any_local = local_action (Fixed M) None
 
 bus_stops :
-    (r : Outcome) (w : List ℕ) (ws : Words) (kind : TableKind) (missing : TableKind)
-    → outcome_of (outcome_word r) ≡ Some r → bytes_eq w bar ≡ false → (o : Option BusEvent) → bus_event_of w ≡ o
-    → bus_event_at r o ws ≡ Err kind
-    → Stops (local_rest r) (λ front. IsFrontOf local_words (outcome_word r ∷ front)) AtWord (w ∷ ws) kind
-bus_stops r w ws kind missing again nobar None h e =
+    (version : ℕ) (r : Outcome) (w : List ℕ) (ws : Words) (kind : TableKind) (missing : TableKind)
+    → outcome_of (outcome_word r) ≡ Some r → bytes_eq w bar ≡ false → (o : Option BusEvent)
+    → bus_event_in version w ≡ o → bus_event_at r o ws ≡ Err kind
+    → Stops (local_rest version r) (λ front. IsFrontOf (SaidLocal version) local_words (outcome_word r ∷ front)) AtWord
+    (w ∷ ws) kind
+bus_stops version r w ws kind missing again nobar None h e =
     record {
       front = [];
       at = Some w;
       rest = ws;
       parts = refl;
-      begins = (local_action r None, [], refl);
+      begins = (local_action r None, [], refl, refl);
       why = cc;
       local = λ more. rw (nobar, h) e;
     }
-bus_stops r w [] kind missing again nobar (Some b) h e = absurd cc
-bus_stops r w (u ∷ us) kind missing again nobar (Some b) h e = go (bytes_eq u bar) refl e
+bus_stops version r w [] kind missing again nobar (Some b) h e = absurd cc
+bus_stops version r w (u ∷ us) kind missing again nobar (Some b) h e = go (bytes_eq u bar) refl e
   where
+    known : (w ≡ bus_event_word b) × (is_answer_said version b ≡ true)
+    known = bus_in_is version w b h
+
     go :
         (x : Bool) → bytes_eq u bar ≡ x → (barred x us >>= with_bus r b) ≡ Err kind
-        → Stops (local_rest r) (λ front. IsFrontOf local_words (outcome_word r ∷ front)) AtWord (w ∷ u ∷ us) kind
+        → Stops (local_rest version r) (λ front. IsFrontOf (SaidLocal version) local_words (outcome_word r ∷ front))
+        AtWord (w ∷ u ∷ us) kind
     go true k e = absurd cc
     go false k e = record {
       front = w ∷ [];
       at = Some u;
       rest = us;
       parts = refl;
-      begins = (local_action r (Some b), [], ap (λ (v : List ℕ). outcome_word r ∷ v ∷ []) (sym (bus_event_is w b h)));
+      begins = (
+        local_action r (Some b),
+        [],
+        ap (λ (v : List ℕ). outcome_word r ∷ v ∷ []) (sym known.0),
+        known.1,
+      );
       why = cc;
       local = λ more. rw (nobar, h, k) e;
     }
 
 local_rest_stops :
-    (r : Outcome) (ws : Words) (kind : TableKind) → local_rest r ws ≡ Err kind
-    → Stops (local_rest r) (λ front. IsFrontOf local_words (outcome_word r ∷ front)) AtWord ws kind
-local_rest_stops r [] kind e = absurd cc
-local_rest_stops r (w ∷ ws) kind e = go (bytes_eq w bar) refl e
+    (version : ℕ) (r : Outcome) (ws : Words) (kind : TableKind) → local_rest version r ws ≡ Err kind
+    → Stops (local_rest version r) (λ front. IsFrontOf (SaidLocal version) local_words (outcome_word r ∷ front)) AtWord
+    ws kind
+local_rest_stops version r [] kind e = absurd cc
+local_rest_stops version r (w ∷ ws) kind e = go (bytes_eq w bar) refl e
   where
     go :
         (x : Bool) → bytes_eq w bar ≡ x
-        → cond x (Ok (local_action r None, true, ws)) (bus_event_at r (bus_event_of w) ws) ≡ Err kind
-        → Stops (local_rest r) (λ front. IsFrontOf local_words (outcome_word r ∷ front)) AtWord (w ∷ ws) kind
+        → cond x (Ok (local_action r None, true, ws)) (bus_event_at r (bus_event_in version w) ws) ≡ Err kind
+        → Stops (local_rest version r) (λ front. IsFrontOf (SaidLocal version) local_words (outcome_word r ∷ front))
+        AtWord (w ∷ ws) kind
     go true k e = absurd cc
-    go false k e = bus_stops r w ws kind UnknownWord (outcome_again r) k (bus_event_of w) refl e
+    go false k e = bus_stops version r w ws kind UnknownWord (outcome_again r) k (bus_event_in version w) refl e
 
 pub local_stops :
-    (missing : TableKind) (ws : Words) (kind : TableKind) → local_at missing ws ≡ Err kind
-    → Stops (local_at missing) (IsFrontOf local_words) (WhyOne missing) ws kind
+    (version : ℕ) (missing : TableKind) (ws : Words) (kind : TableKind) → local_at version missing ws ≡ Err kind
+    → Stops (local_at version missing) (IsFrontOf (SaidLocal version) local_words) (WhyOne missing) ws kind
 unfolding local_at
-local_stops missing [] kind e =
+local_stops version missing [] kind e =
     record {
       front = [];
       at = None;
       rest = [];
       parts = refl;
-      begins = (any_local, local_words any_local, refl);
+      begins = (any_local, local_words any_local, refl, refl);
       why = (refl, cc);
       local = λ more. e;
     }
-local_stops missing (w ∷ ws) kind e = go (outcome_of w) refl e
+local_stops version missing (w ∷ ws) kind e = go (outcome_of w) refl e
   where
     go :
         (o : Option Outcome) → outcome_of w ≡ o
-        → (spelled_by o ws >>= λ result. local_rest result.0 result.1) ≡ Err kind
-        → Stops (local_at missing) (IsFrontOf local_words) (WhyOne missing) (w ∷ ws) kind
+        → (spelled_by o ws >>= λ result. local_rest version result.0 result.1) ≡ Err kind
+        → Stops (local_at version missing) (IsFrontOf (SaidLocal version) local_words) (WhyOne missing) (w ∷ ws) kind
     go None h e =
         record {
           front = [];
           at = Some w;
           rest = ws;
           parts = refl;
-          begins = (any_local, local_words any_local, refl);
+          begins = (any_local, local_words any_local, refl, refl);
           why = cc;
           local = λ more. rw h e;
         }
     go (Some r) h e =
-        let s = local_rest_stops r ws kind e in
+        let s = local_rest_stops version r ws kind e in
         record {
           front = w ∷ s.front;
           at = s.at;
@@ -149,6 +168,7 @@ local_stops missing (w ∷ ws) kind e = go (outcome_of w) refl e
             s.begins.0,
             s.begins.1,
             s.begins.2 ∙ ap (λ (v : List ℕ). v ∷ (s.front ++ s.begins.1)) (sym (outcome_is w r h)),
+            s.begins.3,
           );
           why = at_word missing w s.front s.at kind s.why;
           local = λ more. rw h (s.local more);
@@ -227,13 +247,13 @@ snoop_found :
     (s : State) (ws : Words) (kind : TableKind) (ch di sl : Bool × Words) → signal_at (codes "CH") ws ≡ ch
     → signal_at (codes "DI") ch.1 ≡ di → signal_at (codes "SL") di.1 ≡ sl
     → (r : Words) → sl.1 ≡ r → (bar_or_end r >>= answered s ch.0 di.0 sl.0) ≡ Err kind
-    → Stops (snoop_rest s) (λ front. IsFrontOf snoop_words (state_word s ∷ front)) AtWord ws kind
+    → Stops (snoop_rest s) (λ front. IsFrontOf AnyAnswer snoop_words (state_word s ∷ front)) AtWord ws kind
 snoop_found s ws kind ch di sl e1 e2 e3 [] h e = absurd cc
 snoop_found s ws kind ch di sl e1 e2 e3 (u ∷ us) h e = go (bytes_eq u bar) refl e
   where
     go :
         (x : Bool) → bytes_eq u bar ≡ x → (barred x us >>= answered s ch.0 di.0 sl.0) ≡ Err kind
-        → Stops (snoop_rest s) (λ front. IsFrontOf snoop_words (state_word s ∷ front)) AtWord ws kind
+        → Stops (snoop_rest s) (λ front. IsFrontOf AnyAnswer snoop_words (state_word s ∷ front)) AtWord ws kind
     go true k e = absurd cc
     go false k e =
         let c : Words = signal_words ch.0 (codes "CH") in
@@ -259,6 +279,7 @@ snoop_found s ws kind ch di sl e1 e2 e3 (u ∷ us) h e = go (bytes_eq u bar) ref
             answer_of s ch.0 di.0 sl.0,
             [],
             ap (λ (v : Words). state_word s ∷ v) (append_assoc c d l ∙ sym (append-nil (c ++ (d ++ l)))),
+            tt,
           );
           why = sym same;
           local =
@@ -267,7 +288,7 @@ snoop_found s ws kind ch di sl e1 e2 e3 (u ∷ us) h e = go (bytes_eq u bar) ref
 
 snoop_rest_stops :
     (s : State) (ws : Words) (kind : TableKind) → snoop_rest s ws ≡ Err kind
-    → Stops (snoop_rest s) (λ front. IsFrontOf snoop_words (state_word s ∷ front)) AtWord ws kind
+    → Stops (snoop_rest s) (λ front. IsFrontOf AnyAnswer snoop_words (state_word s ∷ front)) AtWord ws kind
 snoop_rest_stops s ws kind e = snoop_found s ws kind _ _ _ refl refl refl _ refl e
 
 abbrev pub any_snoop : SnoopAction
@@ -275,7 +296,7 @@ any_snoop = answer_of M false false false
 
 pub snoop_stops :
     (missing : TableKind) (ws : Words) (kind : TableKind) → snoop_at missing ws ≡ Err kind
-    → Stops (snoop_at missing) (IsFrontOf snoop_words) (WhyOne missing) ws kind
+    → Stops (snoop_at missing) (IsFrontOf AnyAnswer snoop_words) (WhyOne missing) ws kind
 unfolding snoop_at
 snoop_stops missing [] kind e =
     record {
@@ -283,7 +304,7 @@ snoop_stops missing [] kind e =
       at = None;
       rest = [];
       parts = refl;
-      begins = (any_snoop, snoop_words any_snoop, refl);
+      begins = (any_snoop, snoop_words any_snoop, refl, tt);
       why = (refl, cc);
       local = λ more. e;
     }
@@ -291,14 +312,14 @@ snoop_stops missing (w ∷ ws) kind e = go (state_of w) refl e
   where
     go :
         (o : Option State) → state_of w ≡ o → (spelled_by o ws >>= λ state. snoop_rest state.0 state.1) ≡ Err kind
-        → Stops (snoop_at missing) (IsFrontOf snoop_words) (WhyOne missing) (w ∷ ws) kind
+        → Stops (snoop_at missing) (IsFrontOf AnyAnswer snoop_words) (WhyOne missing) (w ∷ ws) kind
     go None h e =
         record {
           front = [];
           at = Some w;
           rest = ws;
           parts = refl;
-          begins = (any_snoop, snoop_words any_snoop, refl);
+          begins = (any_snoop, snoop_words any_snoop, refl, tt);
           why = cc;
           local = λ more. rw h e;
         }
@@ -313,14 +334,17 @@ snoop_stops missing (w ∷ ws) kind e = go (state_of w) refl e
             s.begins.0,
             s.begins.1,
             s.begins.2 ∙ ap (λ (v : List ℕ). v ∷ (s.front ++ s.begins.1)) (sym (state_is w r h)),
+            tt,
           );
           why = at_word missing w s.front s.at kind s.why;
           local = λ more. rw h (s.local more);
         }
 
 -- a word that can begin an alternative does
-pub local_first : (w : List ℕ) (x : Outcome) → outcome_of w ≡ Some x → IsFrontOf local_words (w ∷ [])
-local_first w x h = (local_action x None, [], ap (λ (v : List ℕ). v ∷ []) (sym (outcome_is w x h)))
+pub local_first :
+    (version : ℕ) (w : List ℕ) (x : Outcome) → outcome_of w ≡ Some x
+    → IsFrontOf (SaidLocal version) local_words (w ∷ [])
+local_first version w x h = (local_action x None, [], ap (λ (v : List ℕ). v ∷ []) (sym (outcome_is w x h)), refl)
 
-pub snoop_first : (w : List ℕ) (x : State) → state_of w ≡ Some x → IsFrontOf snoop_words (w ∷ [])
-snoop_first w x h = (answer_of x false false false, [], ap (λ (v : List ℕ). v ∷ []) (sym (state_is w x h)))
+pub snoop_first : (w : List ℕ) (x : State) → state_of w ≡ Some x → IsFrontOf AnyAnswer snoop_words (w ∷ [])
+snoop_first w x h = (answer_of x false false false, [], ap (λ (v : List ℕ). v ∷ []) (sym (state_is w x h)), tt)

@@ -2,6 +2,7 @@
 use Rattle.std.proofs.Common.{◌≡◌, ℕ, zero, suc, ◌<◌, ◌+◌, ◌⊎◌, inl, inr, Bool, true, false, cond, List, [], ◌∷◌, ◌++◌, length, Option, Some, None, Result, Ok, Err, refl, sym, ap, subst, ◌∙◌, append_assoc, arith}
 use Rattle.std.specs.Prelude.{codes}
 use Rattle.std.specs.Str.{bytes_eq}
+use Rattle.std.specs.List.{AllByRecursion}
 use Rattle.class_relation.specs.Tables.{Table}
 use Rattle.table_text.specs.declared.fault.TableKind.{TableKind}
 use Rattle.table_text.specs.declared.fault.TableKind.TheVariants.{UnknownWord, NoCell, Alternatives}
@@ -23,17 +24,19 @@ WhyTail Begins front (Some w) kind =
     (kind ≡ UnknownWord) ⊎ ((kind ≡ Alternatives 17) × (bars front ≡ 16) × Begins (front ++ w ∷ []))
 
 module _ {A X : Type 0} (first : List ℕ → Option X) (read : TableKind → Words → Result (A × Bool × Words) TableKind)
-    (f : A → Words) (add : Table → A → Table) (any : A)
+    (Said : A → Type 0) (f : A → Words) (add : Table → A → Table) (any : A) (any_said : Said any)
     (takes : (missing : TableKind) (ws : Words) (x : A × Bool × Words) → read missing ws ≡ Ok x
-    → ws ≡ f x.0 ++ tail x.1 x.2)
-    (again : (missing : TableKind) (a : A) (more : Bool) (rest : Words)
+    → (ws ≡ f x.0 ++ tail x.1 x.2) × Said x.0)
+    (again : (missing : TableKind) (a : A) (more : Bool) (rest : Words) → Said a
     → read missing (f a ++ tail more rest) ≡ Ok (a, more, left more rest))
     (stops : (missing : TableKind) (ws : Words) (kind : TableKind) → read missing ws ≡ Err kind
-    → Stops (read missing) (IsFrontOf f) (WhyOne missing) ws kind)
-    (begins_one : (w : List ℕ) (x : X) → first w ≡ Some x → IsFrontOf f (w ∷ [])) (none : (a : A) → bars (f a) ≡ 0)
+    → Stops (read missing) (IsFrontOf Said f) (WhyOne missing) ws kind)
+    (begins_one : (w : List ℕ) (x : X) → first w ≡ Some x → IsFrontOf Said f (w ∷ [])) (none : (a : A) → bars (f a) ≡ 0)
   where
     abbrev pub BeginsAlts : Words → Type 0
-    BeginsAlts front = (alts : List A) × (more : Words) × (0 < length alts) × (alternative_words f alts ≡ front ++ more)
+    BeginsAlts front =
+        (alts : List A) × (more : Words) × (0 < length alts) × (alternative_words f alts ≡ front ++ more)
+        × AllByRecursion Said alts
 
     -- why alternatives are refused, where there is room for so many
     abbrev pub WhyAlts : ℕ → TableKind → Words → Option (List ℕ) → TableKind → Type 0
@@ -51,26 +54,27 @@ module _ {A X : Type 0} (first : List ℕ → Option X) (read : TableKind → Wo
     front_alts a [] some = absurd (omega arith)
     front_alts a (b ∷ more) some = refl
 
-    begins_behind : (a : A) (front : Words) → BeginsAlts front → BeginsAlts (f a ++ bar ∷ front)
-    begins_behind a front b = (
+    begins_behind : (a : A) (front : Words) → Said a → BeginsAlts front → BeginsAlts (f a ++ bar ∷ front)
+    begins_behind a front said b = (
       a ∷ b.0,
       b.1,
       omega arith,
       front_alts a b.0 b.2 ∙ (ap (λ (v : Words). f a ++ bar ∷ v) b.3 ∙ sym (append_assoc (f a) (bar ∷ front) b.1)),
+      (said, b.4),
     )
 
     why_behind :
-        (room : ℕ) (missing : TableKind) (a : A) (front : Words) (at : Option (List ℕ)) (kind : TableKind)
+        (room : ℕ) (missing : TableKind) (a : A) (front : Words) (at : Option (List ℕ)) (kind : TableKind) → Said a
         → WhyAlts room UnknownWord front at kind → WhyAlts (suc room) missing (f a ++ bar ∷ front) at kind
-    why_behind room missing a front None kind (inl h) = inr (f a, ap (λ (v : Words). f a ++ bar ∷ v) h.0, h.1)
-    why_behind room missing a front None kind (inr (p, h, k)) =
+    why_behind room missing a front None kind said (inl h) = inr (f a, ap (λ (v : Words). f a ++ bar ∷ v) h.0, h.1)
+    why_behind room missing a front None kind said (inr (p, h, k)) =
         inr (f a ++ bar ∷ p, ap (λ (v : Words). f a ++ bar ∷ v) h ∙ sym (append_assoc (f a) (bar ∷ p) (bar ∷ [])), k)
-    why_behind room missing a front (Some w) kind (inl h) = inl h
-    why_behind room missing a front (Some w) kind (inr (k, count, b)) =
+    why_behind room missing a front (Some w) kind said (inl h) = inl h
+    why_behind room missing a front (Some w) kind said (inr (k, count, b)) =
         inr (
           k,
           omega (arith, bars_append (f a) (bar ∷ front), none a, one front, count),
-          subst BeginsAlts (sym (append_assoc (f a) (bar ∷ front) (w ∷ []))) (begins_behind a (front ++ w ∷ []) b),
+          subst BeginsAlts (sym (append_assoc (f a) (bar ∷ front) (w ∷ []))) (begins_behind a (front ++ w ∷ []) said b),
         )
       where
         one : (ws : Words) → bars (bar ∷ ws) ≡ 1 + bars ws
@@ -83,12 +87,12 @@ module _ {A X : Type 0} (first : List ℕ → Option X) (read : TableKind → Wo
     why_one room missing front (Some w) kind h = inl h
 
     stop_behind :
-        (room : ℕ) (missing : TableKind) (t : Table) (ws rest : Words) (a : A) (kind : TableKind)
+        (room : ℕ) (missing : TableKind) (t : Table) (ws rest : Words) (a : A) (kind : TableKind) → Said a
         → ws ≡ f a ++ bar ∷ rest
         → Stops (alternatives first read add room UnknownWord (add t a)) BeginsAlts (FewWhy room UnknownWord) rest kind
         → Stops (alternatives first read add (suc room) missing t) BeginsAlts (FewWhy (suc room) missing) ws kind
     unfolding alternatives
-    stop_behind room missing t ws rest a kind e s = record {
+    stop_behind room missing t ws rest a kind said e s = record {
       front = f a ++ bar ∷ s.front;
       at = s.at;
       rest = s.rest;
@@ -96,17 +100,17 @@ module _ {A X : Type 0} (first : List ℕ → Option X) (read : TableKind → Wo
           e
           ∙ (ap (λ (v : Words). f a ++ bar ∷ v) s.parts
           ∙ sym (append_assoc (f a) (bar ∷ s.front) (from s.at s.rest)));
-      begins = begins_behind a s.front s.begins;
-      why = (few_behind room (f a) s.front (none a) s.why.0, why_behind room missing a s.front s.at kind s.why.1);
+      begins = begins_behind a s.front said s.begins;
+      why = (few_behind room (f a) s.front (none a) s.why.0, why_behind room missing a s.front s.at kind said s.why.1);
       local =
           λ more.
           ap (alternatives first read add (suc room) missing t) (append_assoc (f a) (bar ∷ s.front) (from s.at more))
-          ∙ rw (again missing a true (s.front ++ from s.at more)) (s.local more);
+          ∙ rw (again missing a true (s.front ++ from s.at more) said) (s.local more);
     }
 
     stop_here :
         (room : ℕ) (missing : TableKind) (t : Table) (ws : Words) (kind : TableKind)
-        → Stops (read missing) (IsFrontOf f) (WhyOne missing) ws kind
+        → Stops (read missing) (IsFrontOf Said f) (WhyOne missing) ws kind
         → Stops (alternatives first read add (suc room) missing t) BeginsAlts (FewWhy (suc room) missing) ws kind
     unfolding alternatives
     stop_here room missing t ws kind s = record {
@@ -114,7 +118,7 @@ module _ {A X : Type 0} (first : List ℕ → Option X) (read : TableKind → Wo
       at = s.at;
       rest = s.rest;
       parts = s.parts;
-      begins = (s.begins.0 ∷ [], s.begins.1, omega arith, s.begins.2);
+      begins = (s.begins.0 ∷ [], s.begins.1, omega arith, s.begins.2, (s.begins.3, tt));
       why = (
         few_total (suc room) s.front
             (omega (arith, ap bars s.begins.2 ∙ bars_append s.front s.begins.1, none s.begins.0)),
@@ -141,12 +145,13 @@ module _ {A X : Type 0} (first : List ℕ → Option X) (read : TableKind → Wo
             → cond b (alternatives first read add room UnknownWord (add t x.0) x.2) (Ok (add t x.0)) ≡ Err kind
             → Stops (alternatives first read add (suc room) missing t) BeginsAlts (FewWhy (suc room) missing) ws kind
         go true k e =
-            stop_behind room missing t ws x.2 x.0 kind (takes missing ws x h ∙ ap (λ (b : Bool). f x.0 ++ tail b x.2) k)
+            let taken = takes missing ws x h in
+            stop_behind room missing t ws x.2 x.0 kind taken.1 (taken.0 ∙ ap (λ (b : Bool). f x.0 ++ tail b x.2) k)
             (ih (add t x.0) x.2 e)
         go false k e = absurd cc
 
-    alone : (w : List ℕ) → IsFrontOf f (w ∷ []) → BeginsAlts (w ∷ [])
-    alone w b = (b.0 ∷ [], b.1, omega arith, b.2)
+    alone : (w : List ℕ) → IsFrontOf Said f (w ∷ []) → BeginsAlts (w ∷ [])
+    alone w b = (b.0 ∷ [], b.1, omega arith, b.2, (b.3, tt))
 
     pub alternatives_stop :
         (room : ℕ) (missing : TableKind) (t : Table) (ws : Words) (kind : TableKind)
@@ -159,7 +164,7 @@ module _ {A X : Type 0} (first : List ℕ → Option X) (read : TableKind → Wo
           at = None;
           rest = [];
           parts = refl;
-          begins = (any ∷ [], f any, omega arith, refl);
+          begins = (any ∷ [], f any, omega arith, refl, (any_said, tt));
           why = (few_nil zero, inl (refl, cc));
           local = λ more. e;
         }
@@ -174,7 +179,7 @@ module _ {A X : Type 0} (first : List ℕ → Option X) (read : TableKind → Wo
               at = Some w;
               rest = ws;
               parts = refl;
-              begins = (any ∷ [], f any, omega arith, refl);
+              begins = (any ∷ [], f any, omega arith, refl, (any_said, tt));
               why = (few_nil zero, inl cc);
               local = λ more. rw h e;
             }
@@ -184,7 +189,7 @@ module _ {A X : Type 0} (first : List ℕ → Option X) (read : TableKind → Wo
               at = Some w;
               rest = ws;
               parts = refl;
-              begins = (any ∷ [], f any, omega arith, refl);
+              begins = (any ∷ [], f any, omega arith, refl, (any_said, tt));
               why = (few_nil zero, inr (cc, refl, alone w (begins_one w x h)));
               local = λ more. rw h e;
             }
@@ -199,6 +204,7 @@ module _ {A X : Type 0} (first : List ℕ → Option X) (read : TableKind → Wo
     abbrev pub BeginsTail : Words → Type 0
     BeginsTail front =
         (alts : List A) × (more : Words) × (0 < length alts) × (codes "=" ∷ alternative_words f alts ≡ front ++ more)
+        × AllByRecursion Said alts
 
     why_tail :
         (front : Words) (at : Option (List ℕ)) (kind : TableKind) → WhyAlts 16 NoCell front at kind
@@ -207,7 +213,7 @@ module _ {A X : Type 0} (first : List ℕ → Option X) (read : TableKind → Wo
     why_tail front None kind (inr (p, h, k)) = inr (k, inr (p, ap (λ (v : Words). codes "=" ∷ v) h))
     why_tail front (Some w) kind (inl h) = inl h
     why_tail front (Some w) kind (inr (k, count, b)) =
-        inr (k, omega (arith, count), (b.0, b.1, b.2, ap (λ (v : Words). codes "=" ∷ v) b.3))
+        inr (k, omega (arith, count), (b.0, b.1, b.2, ap (λ (v : Words). codes "=" ∷ v) b.3, b.4))
 
     pub tail_stops :
         (t : Table) (ws : Words) (kind : TableKind) → after_event t ws ≡ Err kind
@@ -218,7 +224,7 @@ module _ {A X : Type 0} (first : List ℕ → Option X) (read : TableKind → Wo
           at = None;
           rest = [];
           parts = refl;
-          begins = (any ∷ [], codes "=" ∷ f any, omega arith, refl);
+          begins = (any ∷ [], codes "=" ∷ f any, omega arith, refl, (any_said, tt));
           why = (few_nil 16, inr (cc, inl refl));
           local = λ more. e;
         }
@@ -235,7 +241,7 @@ module _ {A X : Type 0} (first : List ℕ → Option X) (read : TableKind → Wo
               at = Some w;
               rest = ws;
               parts = refl;
-              begins = (any ∷ [], codes "=" ∷ f any, omega arith, refl);
+              begins = (any ∷ [], codes "=" ∷ f any, omega arith, refl, (any_said, tt));
               why = (few_nil 16, inl cc);
               local = λ more. rw h e;
             }
@@ -247,7 +253,7 @@ module _ {A X : Type 0} (first : List ℕ → Option X) (read : TableKind → Wo
               at = s.at;
               rest = s.rest;
               parts = ap (λ (v : List ℕ). v ∷ ws) (is_word w (codes "=") h) ∙ ap (λ (v : Words). codes "=" ∷ v) s.parts;
-              begins = (b.0, b.1, b.2, ap (λ (v : Words). codes "=" ∷ v) b.3);
+              begins = (b.0, b.1, b.2, ap (λ (v : Words). codes "=" ∷ v) b.3, b.4);
               why = (few_cons 16 (codes "=") s.front refl (omega arith) s.why.0, why_tail s.front s.at kind s.why.1);
               local = λ more. s.local more;
             }

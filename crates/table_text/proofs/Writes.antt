@@ -5,7 +5,7 @@ use Rattle.std.proofs.lemmas.List.{append-nil, map-append, take_more}
 use Rattle.std.proofs.lemmas.Grind.{flat_map-append}
 use Rattle.fb_text.specs.Places.{Words}
 use Rattle.fb_text.specs.Written.{after_words, line_bytes, lines_bytes}
-use Rattle.table_text.specs.Spelling.{bar, alternative_words, CellLine, local, answer, cell_words}
+use Rattle.table_text.specs.Spelling.{bar, alternative_words, CellLine, local, answer, cell_words, version_words}
 use Rattle.table_text.specs.Writing.{cells_bytes, local_given, snoop_given, cells_of, written_table}
 use Rattle.moesi_state.specs.declared.State.{State}
 use Rattle.bus_signals.specs.declared.LocalEvent.{LocalEvent}
@@ -133,11 +133,11 @@ some_snoop_line s e (a ∷ more) h = one_cell (answer s e (a ∷ more))
 -- ---- a whole table
 
 pub table_written :
-    (old x y z : List ℕ) (t : Table) → x ≡ old ++ line_bytes (codes "table" ∷ t.name ∷ [])
+    (old x y z : List ℕ) (t : Table) → x ≡ old ++ line_bytes (codes "table" ∷ t.name ∷ version_words t.version)
     → y ≡ x ++ cells_bytes (cells_of t) → z ≡ y ++ line_bytes (codes "end" ∷ []) → z ≡ old ++ written_table t
 unfolding written_table cells_bytes
 table_written old x y z t e h k =
-    let head : List ℕ = line_bytes (codes "table" ∷ t.name ∷ []) in
+    let head : List ℕ = line_bytes (codes "table" ∷ t.name ∷ version_words t.version) in
     let cells : List ℕ = lines_bytes (map cell_words (cells_of t)) in
     let last : List ℕ = line_bytes (codes "end" ∷ []) in
     let parts : written_table t ≡ head ++ (cells ++ last) =

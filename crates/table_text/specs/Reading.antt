@@ -11,9 +11,10 @@ use Rattle.moesi_state.specs.declared.Outcome.{Outcome}
 use Rattle.bus_signals.specs.declared.Response.{Response}
 use Rattle.class_relation.specs.declared.LocalAction.{LocalAction}
 use Rattle.class_relation.specs.declared.SnoopAction.{SnoopAction}
-use Rattle.class_relation.specs.Tables.{Table, empty_table, locals_of, answers_of, with_local, with_answer}
+use Rattle.class_relation.specs.Versions.{is_local_said, is_answer_said}
+use Rattle.class_relation.specs.Tables.{Table, empty_table, said_locals, said_answers, with_local, with_answer}
 use Rattle.table_text.specs.declared.fault.TableKind.{TableKind}
-use Rattle.table_text.specs.declared.fault.TableKind.TheVariants.{UnknownWord, TwiceCell, NoCell, Alternatives, NoEnd}
+use Rattle.table_text.specs.declared.fault.TableKind.TheVariants.{UnknownWord, Number, TwiceCell, NoCell, Alternatives, NoEnd}
 use Rattle.table_text.specs.declared.fault.TableFault.{TableFault}
 use Rattle.table_text.specs.declared.fault.TableFault.TheVariants as faults
 use Rattle.class_words.specs.Words.{state_of, local_event_of, bus_event_of, outcome_of}
@@ -68,6 +69,22 @@ bar (Some w) = if bytes_eq w (codes "|") then Ok true else Err UnknownWord
 abbrev pub GivesBar : Result Bool TableFault → ℕ → Option (List ℕ) → Type 0
 GivesBar result here word = Gives (λ more. more) result here (bar word)
 
+-- an event, where a table of this version may say it
+abbrev pub said_local : ℕ → Option LocalEvent → Option LocalEvent
+said_local version None = None
+said_local version (Some e) = if is_local_said version e then Some e else None
+
+abbrev pub said_bus : ℕ → Option BusEvent → Option BusEvent
+said_bus version None = None
+said_bus version (Some e) = if is_answer_said version e then Some e else None
+
+-- the event that a word spells in a table of this version
+abbrev pub local_event_in : ℕ → List ℕ → Option LocalEvent
+local_event_in version w = said_local version (local_event_of w)
+
+abbrev pub bus_event_in : ℕ → List ℕ → Option BusEvent
+bus_event_in version w = said_bus version (bus_event_of w)
+
 -- a local alternative, and whether another follows
 abbrev pub local_action : Outcome → Option BusEvent → LocalAction
 local_action result bus = record { result = result; bus = bus }
@@ -78,15 +95,16 @@ bus_event_at result None ws = Err UnknownWord
 bus_event_at result (Some event) ws =
     bar_or_end ws >>= λ after. Ok (local_action result (Some event), after.0, after.1)
 
-abbrev pub local_rest : Outcome → Words → Result (LocalAction × Bool × Words) TableKind
-local_rest result [] = Ok (local_action result None, false, [])
-local_rest result (w ∷ ws) =
+abbrev pub local_rest : ℕ → Outcome → Words → Result (LocalAction × Bool × Words) TableKind
+local_rest version result [] = Ok (local_action result None, false, [])
+local_rest version result (w ∷ ws) =
     if bytes_eq w (codes "|")
     then Ok (local_action result None, true, ws)
-    else bus_event_at result (bus_event_of w) ws
+    else bus_event_at result (bus_event_in version w) ws
 
-unfoldable pub local_at : TableKind → Words → Result (LocalAction × Bool × Words) TableKind
-local_at missing ws = word_by outcome_of missing ws >>= λ result. local_rest result.0 result.1
+unfoldable pub local_at : ℕ → TableKind → Words → Result (LocalAction × Bool × Words) TableKind
+local_at version missing ws =
+    word_by outcome_of missing ws >>= λ result. local_rest version result.0 result.1
 
 -- a signal that may come next
 abbrev pub signal_at : List ℕ → Words → Bool × Words
@@ -144,7 +162,7 @@ alternatives first read add (suc room) missing t ws =
 -- all alternatives of a cell, where a line that ends before the first is NoCell
 abbrev pub local_alternatives : State → LocalEvent → Table → Words → Result Table TableKind
 local_alternatives s e t ws =
-    alternatives outcome_of local_at (λ t a. with_local t s e a) 16 NoCell t ws
+    alternatives outcome_of (local_at t.version) (λ t a. with_local t s e a) 16 NoCell t ws
 
 abbrev pub snoop_alternatives : State → BusEvent → Table → Words → Result Table TableKind
 snoop_alternatives s e t ws =
@@ -153,13 +171,13 @@ snoop_alternatives s e t ws =
 -- the words after the event, where the cell was not given before: `=` and the alternatives
 unfoldable pub local_cell_at : Table → State → LocalEvent → Words → Result Table TableKind
 local_cell_at t s e ws =
-    if is_empty (locals_of t s e)
+    if is_empty (said_locals t s e)
     then (this_word (codes "=") ws >>= λ after. local_alternatives s e t after)
     else Err TwiceCell
 
 unfoldable pub snoop_cell_at : Table → State → BusEvent → Words → Result Table TableKind
 snoop_cell_at t s e ws =
-    if is_empty (answers_of t s e)
+    if is_empty (said_answers t s e)
     then (this_word (codes "=") ws >>= λ after. snoop_alternatives s e t after)
     else Err TwiceCell
 
@@ -174,7 +192,8 @@ any_cell t s (Some e) bus ws = local_cell_at t s e ws
 
 abbrev pub event_at : Table → State → Words → Result Table TableKind
 event_at t s [] = Err UnknownWord
-event_at t s (w ∷ ws) = any_cell t s (local_event_of w) (bus_event_of w) ws
+event_at t s (w ∷ ws) =
+    any_cell t s (local_event_in t.version w) (bus_event_in t.version w) ws
 
 -- a line that gives a cell its alternatives
 unfoldable pub cell_line : Table → Words → Result Table TableKind
@@ -213,10 +232,22 @@ table_lines t (l ∷ ls) end = on_line l.number (table_line t l.words) >>= λ x.
     then Ok (x.1, record { line = l.number; words = []; lines = ls; end = end })
     else table_lines x.1 ls end
 
+-- the version after the word `version`: no other than 2 is spelled
+abbrev pub version_number : Words → Result ℕ TableKind
+version_number [] = Err Number
+version_number (w ∷ ws) =
+    if bytes_eq w (codes "2") then (line_ends ws >>= λ _. Ok 2) else Err Number
+
+-- the version of a table, from what stands after its name: it is 1 where nothing does
+abbrev pub version_at : Words → Result ℕ TableKind
+version_at [] = Ok 1
+version_at (w ∷ ws) = if bytes_eq w (codes "version") then version_number ws else Err UnknownWord
+
 -- a table from just after its name on
 unfoldable pub table_at : List ℕ → Unread → Result (Table × Unread) Fault
 table_at name u =
-    on_line u.line (line_ends u.words) >>= λ _. table_lines (empty_table name) u.lines u.end
+    on_line u.line (version_at u.words) >>=
+    λ version. table_lines (empty_table name version) u.lines u.end
 
 -- What read_table returned, with what the scan has yet to give, is what reading gives, unless
 -- memory ran out.

@@ -1,5 +1,5 @@
 -- The grammar of a table's text, from just after its name to the end of its `end` line.
-use Rattle.std.specs.Prelude.{◌≡◌, ℕ, ◌+◌, ◌<◌, ◌⊎◌, Bool, true, List, [], ◌∷◌, ◌++◌, length, map, Option, Some, None, codes, slice_set, if◌then◌else◌}
+use Rattle.std.specs.Prelude.{◌≡◌, ℕ, ◌+◌, ◌<◌, ◌⊎◌, ◌==◌, Bool, true, IsTrue, List, [], ◌∷◌, ◌++◌, length, map, Option, Some, None, codes, slice_set, if◌then◌else◌}
 use Rattle.std.specs.List.{AllByRecursion}
 use Rattle.std.specs.Str.{bytes_eq}
 use Rattle.fb_text.specs.Places.{Item, word, line_end, text_end, Words, lines_items, BreaksAtWord, Grammar}
@@ -8,10 +8,11 @@ use Rattle.bus_signals.specs.declared.LocalEvent.{LocalEvent}
 use Rattle.bus_signals.specs.declared.BusEvent.{BusEvent}
 use Rattle.class_relation.specs.declared.LocalAction.{LocalAction}
 use Rattle.class_relation.specs.declared.SnoopAction.{SnoopAction}
+use Rattle.class_relation.specs.Versions.{is_local_said, is_answer_said, is_bus_said}
 use Rattle.class_relation.specs.Tables.{local_cell, answer_cell}
 use Rattle.class_relation.specs.Tables.{Table, empty_table}
 use Rattle.table_text.specs.declared.fault.TableKind.{TableKind}
-use Rattle.table_text.specs.declared.fault.TableKind.TheVariants.{UnknownWord, TwiceCell, NoCell, Alternatives, NoEnd}
+use Rattle.table_text.specs.declared.fault.TableKind.TheVariants.{UnknownWord, Number, TwiceCell, NoCell, Alternatives, NoEnd}
 use Rattle.class_words.specs.Words.{state_word, local_event_word, bus_event_word, outcome_word}
 
 -- ---- what is written
@@ -57,12 +58,47 @@ abbrev pub HasAlternative : CellLine → Type 0
 HasAlternative (local s e alts) = 0 < length alts
 HasAlternative (answer s e alts) = 0 < length alts
 
--- the rest of the head line, the cell lines in any order, and the `end` line
-abbrev pub table_rows : List CellLine → List Words
-table_rows cells = [] ∷ (map cell_words cells ++ (codes "end" ∷ []) ∷ [])
+-- what a table of this version may say: its events and its transactions are of the version
+pub record IsSaidLocal (version : ℕ) (event : LocalEvent) (alts : List LocalAction) : Type 0 where
+  pub known : IsTrue (is_local_said version event)
+  pub buses : AllByRecursion (λ (a : LocalAction). IsTrue (is_bus_said version a.bus)) alts
 
-abbrev pub table_items : List CellLine → List Item
-table_items cells = lines_items (table_rows cells)
+abbrev pub IsSaid : ℕ → CellLine → Type 0
+IsSaid version (local s e alts) = IsSaidLocal version e alts
+IsSaid version (answer s e alts) = IsTrue (is_answer_said version e)
+
+-- a cell line of a table of this version
+pub record IsLineOf (version : ℕ) (line : CellLine) : Type 0 where
+  pub some : HasAlternative line
+  pub said : IsSaid version line
+
+-- a table after its name: its version and its cell lines
+pub record TableBody : Type 0 where
+  pub version : ℕ
+  pub cells : List CellLine
+
+abbrev pub body : ℕ → List CellLine → TableBody
+body version cells = record { version = version; cells = cells }
+
+-- version 1 or 2
+abbrev pub IsVersion : ℕ → Type 0
+IsVersion version = (version ≡ 1) ⊎ (version ≡ 2)
+
+-- how a head line goes on after the name
+abbrev pub version_words : ℕ → Words
+version_words version = if version == 1 then [] else codes "version" ∷ codes "2" ∷ []
+
+-- the rest of the head line, the cell lines in any order, and the `end` line
+abbrev pub table_rows : TableBody → List Words
+table_rows b = version_words b.version ∷ (map cell_words b.cells ++ (codes "end" ∷ []) ∷ [])
+
+abbrev pub table_items : TableBody → List Item
+table_items b = lines_items (table_rows b)
+
+-- the version is one, and the cell lines are of it
+pub record BodyFits (b : TableBody) : Type 0 where
+  pub version : IsVersion b.version
+  pub lines : AllByRecursion (IsLineOf b.version) b.cells
 
 -- ---- what a text means
 
@@ -75,8 +111,8 @@ abbrev pub all_entered : Table → List CellLine → Table
 all_entered t [] = t
 all_entered t (c ∷ cs) = all_entered (entered t c) cs
 
-abbrev pub table_of : List ℕ → List CellLine → Table
-table_of name cells = all_entered (empty_table name) cells
+abbrev pub table_of : List ℕ → TableBody → Table
+table_of name b = all_entered (empty_table name b.version) b.cells
 
 -- ---- the side conditions, each at the place where it is judged
 
@@ -106,17 +142,24 @@ BreaksCell earlier words here kind =
 abbrev pub EndsWithEquals : List Item → Type 0
 EndsWithEquals before = (front : List Item) × (before ≡ front ++ word (codes "=") ∷ [])
 
+-- the word `version` stands alone
+abbrev pub WantsNumber : List Item → Type 0
+WantsNumber before = before ≡ word (codes "version") ∷ []
+
 abbrev pub UnfitTable : List Item → Item → TableKind → Type 0
 UnfitTable before text_end kind = kind ≡ NoEnd
 UnfitTable before line_end kind =
-    (EndsWithEquals before × (kind ≡ NoCell)) ⊎ (¬ (EndsWithEquals before) × (kind ≡ UnknownWord))
-UnfitTable before (word w) kind = kind ≡ UnknownWord
+    (WantsNumber before × (kind ≡ Number))
+    ⊎ (EndsWithEquals before × (kind ≡ NoCell))
+    ⊎ (¬ (WantsNumber before) × ¬ (EndsWithEquals before) × (kind ≡ UnknownWord))
+UnfitTable before (word w) kind =
+    (WantsNumber before × (kind ≡ Number)) ⊎ (¬ (WantsNumber before) × (kind ≡ UnknownWord))
 
-abbrev pub table_grammar : Grammar (List CellLine) TableKind
+abbrev pub table_grammar : Grammar TableBody TableKind
 table_grammar =
     record {
       spelled = table_items;
-      Fits = AllByRecursion HasAlternative;
+      Fits = BodyFits;
       Breaks = BreaksAtWord BreaksCell;
       Unfit = UnfitTable;
     }

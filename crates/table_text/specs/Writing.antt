@@ -10,8 +10,8 @@ use Rattle.bus_signals.specs.declared.LocalEvent.{LocalEvent}
 use Rattle.bus_signals.specs.declared.BusEvent.{BusEvent}
 use Rattle.class_relation.specs.declared.LocalAction.{LocalAction}
 use Rattle.class_relation.specs.declared.SnoopAction.{SnoopAction}
-use Rattle.class_relation.specs.Tables.{Table, locals_of, answers_of, local_events, bus_events}
-use Rattle.table_text.specs.Spelling.{CellLine, local, answer, cell_words}
+use Rattle.class_relation.specs.Tables.{Table, said_locals, said_answers, local_events, bus_events}
+use Rattle.table_text.specs.Spelling.{CellLine, local, answer, cell_words, version_words}
 
 -- the line of a cell, where it has alternatives
 abbrev pub local_given : State → LocalEvent → List LocalAction → List CellLine
@@ -23,16 +23,16 @@ snoop_given s e [] = []
 snoop_given s e (a ∷ more) = answer s e (a ∷ more) ∷ []
 
 abbrev pub local_line : Table → State → LocalEvent → List CellLine
-local_line t s e = local_given s e (locals_of t s e)
+local_line t s e = local_given s e (said_locals t s e)
 
 abbrev pub snoop_line : Table → State → BusEvent → List CellLine
-snoop_line t s e = snoop_given s e (answers_of t s e)
+snoop_line t s e = snoop_given s e (said_answers t s e)
 
 -- the lines of a state, in cell order
 unfoldable pub state_lines : Table → State → List CellLine
 state_lines t s = flat_map (local_line t s) local_events ++ flat_map (snoop_line t s) bus_events
 
--- all cells that have alternatives, in cell order
+-- all cells in which the table says alternatives, in cell order
 unfoldable pub cells_of : Table → List CellLine
 cells_of t = flat_map (state_lines t) all_states
 
@@ -49,14 +49,14 @@ body_rows t = map cell_words (cells_of t) ++ (codes "end" ∷ []) ∷ []
 
 -- the lines of a written table
 abbrev pub written_rows : Table → List Words
-written_rows t = (codes "table" ∷ t.name ∷ []) ∷ body_rows t
+written_rows t = (codes "table" ∷ t.name ∷ version_words t.version) ∷ body_rows t
 
 unfoldable pub written_table : Table → List ℕ
 written_table t = lines_bytes (written_rows t)
 
 -- the room that any written table fits in
 abbrev pub table_room : ℕ
-table_room = 16700
+table_room = 19300
 
 -- what a scan of these bytes has yet to give after the first two words
 abbrev pub after_head : List ℕ → Unread
@@ -68,7 +68,7 @@ abbrev pub behind_head : ℕ → ℕ → Table → List ℕ → Unread
 behind_head line end t rest =
     record {
       line = line;
-      words = [];
+      words = version_words t.version;
       lines = numbered (line + 1) (lines (lines_bytes (body_rows t) ++ rest));
       end = end;
     }

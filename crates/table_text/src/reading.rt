@@ -1,13 +1,14 @@
 //! Reading a table word by word.
 
-ghost use Rattle.std.specs.Prelude.{◌≡◌, ℕ, [], ◌∷◌, true, codes, ◌++◌, List, IfOk, IfErr, OnOk};
+ghost use Rattle.std.specs.Prelude.{◌≡◌, ℕ, [], ◌∷◌, true, codes, ◌++◌, List, IsTrue, IfSome, IfOk, IfErr, OnOk};
+ghost use Rattle.class_relation.specs.Versions.{is_local_said, is_answer_said, is_bus_said};
 ghost use Rattle.class_words.specs.Words.{outcome_of, state_of};
-ghost use Rattle.table_text.specs.Reading.{Gives, GivesBar, FailsAs, StaysOnLine, IsLast, onto, signal_at, local_at, snoop_at, word_by, this_word, no_room, local_alternatives, snoop_alternatives, local_cell_at, snoop_cell_at, cell_line, line_ends, table_line, table_at, GivesTable};
+ghost use Rattle.table_text.specs.Reading.{Gives, GivesBar, FailsAs, StaysOnLine, IsLast, onto, signal_at, local_at, snoop_at, word_by, this_word, no_room, local_event_in, bus_event_in, version_at, local_alternatives, snoop_alternatives, local_cell_at, snoop_cell_at, cell_line, line_ends, table_line, table_at, GivesTable};
 ghost use Rattle.table_text.specs.Writing.{written_table, after_head, behind_head, behind_table};
-ghost use Rattle.class_relation.specs.Tables.{Table, IsWhole, empty_table, locals_of, answers_of};
+ghost use Rattle.class_relation.specs.Tables.{Table, IsWhole, empty_table, said_locals, said_answers};
 ghost use Rattle.std.specs.Option.{option_copied};
 ghost use Rattle.fb_text.specs.Places.{Item, items, places};
-ghost use Rattle.table_text.specs.Spelling.{CellLine, table_items, table_of};
+ghost use Rattle.table_text.specs.Spelling.{CellLine, IsVersion, body, table_items, table_of};
 ghost use Rattle.table_text.specs.Correct.{IsTable, AllStand, IsReadAs, IsFirstFault};
 
 use crate::fault::{TableFault, TableKind};
@@ -69,11 +70,42 @@ fn bar(scan: &Scan, word: Option<&[u8]>) -> Result<bool, TableFault>
     }
 }
 
-/// Reads a local alternative, and whether another follows.
+/// The local event that a word spells in a table of this version.
+fn local_event_in(table: &Table, word: &[u8]) -> Option<LocalEvent>
+    ensures event { result ≡ local_event_in table.now.version word.now }
+    ensures said { IfSome result (λ event. IsTrue (is_local_said table.now.version event)) }
+{
+    let event = local_event_of(word)?;
+    if table.says_local(event) {
+        Some(event)
+    } else {
+        None
+    }
+}
+
+/// The bus event that a word spells in a table of this version.
+fn bus_event_in(table: &Table, word: &[u8]) -> Option<BusEvent>
+    ensures event { result ≡ bus_event_in table.now.version word.now }
+    ensures said { IfSome result (λ event. IsTrue (is_answer_said table.now.version event)) }
+{
+    let event = bus_event_of(word)?;
+    if table.says_answer(event) {
+        Some(event)
+    } else {
+        None
+    }
+}
+
+/// Reads a local alternative of a table, and whether another follows.
 #[tactic(auto, unfolding(crate::specs::Reading::local_at))]
-fn local_action(scan: &mut Scan, missing: TableKind) -> Result<(LocalAction, bool), TableFault>
+fn local_action(
+    scan: &mut Scan,
+    table: &Table,
+    missing: TableKind,
+) -> Result<(LocalAction, bool), TableFault>
     ensures value { Gives (λ x. (x.0, x.1, scan.new.words)) result scan.old.line
-        (local_at missing scan.old.words) }
+        (local_at table.now.version missing scan.old.words) }
+    ensures said { IfOk result (λ x. IsTrue (is_bus_said table.now.version x.0.bus)) }
     ensures stays { StaysOnLine scan.old scan.new }
 {
     let result = outcome(scan, missing)?;
@@ -83,7 +115,7 @@ fn local_action(scan: &mut Scan, missing: TableKind) -> Result<(LocalAction, boo
     if is(word, "|") {
         return Ok((LocalAction { result, bus: None }, true));
     }
-    let Some(event) = bus_event_of(word) else {
+    let Some(event) = bus_event_in(table, word) else {
         return Err(unknown(scan));
     };
     let after = scan.next_word();
@@ -167,14 +199,15 @@ fn local_alternatives(
     state: State,
     event: LocalEvent,
 ) -> Result<(), TableFault>
-    requires { locals_of table.old state event ≡ [] }
+    requires none { said_locals table.old state event ≡ [] }
+    requires said { IsTrue (is_local_said table.old.version event) }
     ensures value { Gives (λ _. table.new) result scan.old.line
         (local_alternatives state event table.old scan.old.words) }
     ensures stays { StaysOnLine scan.old scan.new }
 {
     let mut missing = TableKind::NoCell;
     for _ in 0..16u32 {
-        let (action, more) = local_action(scan, missing)?;
+        let (action, more) = local_action(scan, table, missing)?;
         match table.push_local(state, event, action) {
             Ok(()) => {}
             Err(fault) => return Err(not_pushed(fault)),
@@ -194,7 +227,8 @@ fn snoop_alternatives(
     state: State,
     event: BusEvent,
 ) -> Result<(), TableFault>
-    requires { answers_of table.old state event ≡ [] }
+    requires none { said_answers table.old state event ≡ [] }
+    requires said { IsTrue (is_answer_said table.old.version event) }
     ensures value { Gives (λ _. table.new) result scan.old.line
         (snoop_alternatives state event table.old scan.old.words) }
     ensures stays { StaysOnLine scan.old scan.new }
@@ -234,11 +268,12 @@ fn local_cell(
     state: State,
     event: LocalEvent,
 ) -> Result<(), TableFault>
+    requires { IsTrue (is_local_said table.old.version event) }
     ensures value { Gives (λ _. table.new) result scan.old.line
         (local_cell_at table.old state event scan.old.words) }
     ensures stays { StaysOnLine scan.old scan.new }
 {
-    if !table.local(state, event).is_empty() {
+    if !table.said_local(state, event).is_empty() {
         return Err(bad(scan, TableKind::TwiceCell));
     }
     equals(scan)?;
@@ -253,11 +288,12 @@ fn snoop_cell(
     state: State,
     event: BusEvent,
 ) -> Result<(), TableFault>
+    requires { IsTrue (is_answer_said table.old.version event) }
     ensures value { Gives (λ _. table.new) result scan.old.line
         (snoop_cell_at table.old state event scan.old.words) }
     ensures stays { StaysOnLine scan.old scan.new }
 {
-    if !table.snoop(state, event).is_empty() {
+    if !table.said_snoop(state, event).is_empty() {
         return Err(bad(scan, TableKind::TwiceCell));
     }
     equals(scan)?;
@@ -277,9 +313,9 @@ fn cell(scan: &mut Scan, table: &mut Table, first: &[u8]) -> Result<(), TableFau
     let Some(word) = scan.next_word() else {
         return Err(unknown(scan));
     };
-    if let Some(event) = local_event_of(word) {
+    if let Some(event) = local_event_in(table, word) {
         local_cell(scan, table, state, event)
-    } else if let Some(event) = bus_event_of(word) {
+    } else if let Some(event) = bus_event_in(table, word) {
         snoop_cell(scan, table, state, event)
     } else {
         Err(unknown(scan))
@@ -296,6 +332,26 @@ fn line_end(scan: &mut Scan) -> Result<(), TableFault>
         Some(_) => Err(unknown(scan)),
         None => Ok(()),
     }
+}
+
+/// Reads the version of a table, which is what stands after its name.
+fn version(scan: &mut Scan) -> Result<u8, TableFault>
+    ensures value { Gives (λ version. version) result scan.old.line (version_at scan.old.words) }
+    ensures known { IfOk result IsVersion }
+    ensures stays { StaysOnLine scan.old scan.new }
+{
+    let Some(word) = scan.next_word() else {
+        return Ok(1);
+    };
+    if !is(word, "version") {
+        return Err(unknown(scan));
+    }
+    match scan.next_word() {
+        Some(word) if is(word, "2") => {}
+        _ => return Err(bad(scan, TableKind::Number)),
+    }
+    line_end(scan)?;
+    Ok(2)
 }
 
 /// Reads one line of a table. Returns whether it was the `end` line.
@@ -318,14 +374,16 @@ fn line(scan: &mut Scan, table: &mut Table) -> Result<bool, TableFault>
 }
 
 /// Reads the rest of a table of this name, from just after its name to the end of its `end` line.
+/// The head line may go on with `version 2`; otherwise the table is of version 1.
 #[tactic(auto, using(crate::proofs::Read::is_spelled, crate::proofs::Read::is_read, crate::proofs::Read::is_first, crate::proofs::Bytes::is_read_again))]
 pub fn read_table(alloc: Global, scan: &mut Scan, name: Name) -> Result<Table, TableFault>
     // The text, up to where the scan is, spells the table that was read.
     ensures spelled { IfOk result (λ t. IsTable name scan.old t scan.new) }
     // A table that the text spells is read, whatever follows it.
-    ensures only { (cells : List CellLine) (rest : List Item) → AllStand (empty_table name) cells
-        → items (places scan.old) ≡ table_items cells ++ rest
-        → IsReadAs result (table_of name cells) }
+    ensures only { (version : ℕ) (cells : List CellLine) (rest : List Item) → IsVersion version
+        → AllStand (empty_table name version) cells
+        → items (places scan.old) ≡ table_items (body version cells) ++ rest
+        → IsReadAs result (table_of name (body version cells)) }
     // A table that was written is read back, whatever follows it.
     ensures written { (t : Table) (rest : List ℕ) → IsWhole t → name ≡ t.name
         → scan.old ≡ after_head (written_table t ++ rest) → IsReadAs result t }
@@ -344,8 +402,8 @@ pub fn read_table(alloc: Global, scan: &mut Scan, name: Name) -> Result<Table, T
 fn table(alloc: Global, scan: &mut Scan, name: Name) -> Result<Table, TableFault>
     ensures { GivesTable result scan.new (table_at name scan.old) }
 {
-    let mut table = Table::empty(alloc, name);
-    line_end(scan)?;
+    let version = version(scan)?;
+    let mut table = Table::empty(alloc, name, version);
     while scan.next_line() {
         if line(scan, &mut table)? {
             return Ok(table);

@@ -43,7 +43,17 @@ fn faults_stand_on_their_lines(rt: HostRuntime) {
         ("table un\nI read\nend\n", 2, TableKind::UnknownWord),
         ("table un\nI swap = I\nend\n", 2, TableKind::UnknownWord),
         ("table un\nM rd = O DI CH\nend\n", 2, TableKind::UnknownWord),
-        ("table un version 2\nend\n", 1, TableKind::UnknownWord),
+        (
+            "table un\nI write = I usw\nend\n",
+            2,
+            TableKind::UnknownWord,
+        ),
+        ("table un\nI usw = I\nend\n", 2, TableKind::UnknownWord),
+        ("table un 2\nend\n", 1, TableKind::UnknownWord),
+        ("table un version\nend\n", 1, TableKind::Number),
+        ("table un version 1\nend\n", 1, TableKind::Number),
+        ("table un version 3\nend\n", 1, TableKind::Number),
+        ("table un version 2 2\nend\n", 1, TableKind::UnknownWord),
         ("table un\nend end\n", 2, TableKind::UnknownWord),
         ("table un\n\nI read = I|I\n", 3, TableKind::UnknownWord),
     ];
@@ -118,21 +128,30 @@ fn a_table_is_read_to_its_end(rt: HostRuntime) -> Result<(), Fail> {
 
 #[test]
 fn a_table_is_written_in_cell_order(rt: HostRuntime) -> Result<(), Fail> {
-    let text =
-        "table un # none\nI write = I uwr | I ubw\n M rd = O CH DI\r\nI read = CH:S/E rd\nend\n";
-    let mut scan = Scan::over(text.as_bytes());
-    assert!(rt; scan.next_line());
-    assert!(rt; scan.next_word().is_some());
-    let name = Name::of(scan.next_word().ok_or("a word")?).ok_or("a name")?;
-    let table = match read_table(rt.alloc(), &mut scan, name) {
-        Ok(table) => table,
-        Err(_) => return Err("a table".into()),
-    };
-    let mut written = Text::new(rt.alloc());
-    if write_table(&table, &mut written).is_err() {
-        return Err("memory".into());
+    let rows = [
+        (
+            "table un # none\nI write = I uwr | I ubw\n M rd = O CH DI\r\nI read = CH:S/E rd\nend\n",
+            "table un\nM rd = O CH DI\nI read = CH:S/E rd\nI write = I uwr | I ubw\nend\n",
+        ),
+        (
+            "table un  version 2\nI usw = I\nI swap = I usw\nM usw = M CH DI\nend\n",
+            "table un version 2\nM usw = M CH DI\nI swap = I usw\nI usw = I\nend\n",
+        ),
+    ];
+    for (text, wanted) in rows {
+        let mut scan = Scan::over(text.as_bytes());
+        assert!(rt; scan.next_line());
+        assert!(rt; scan.next_word().is_some());
+        let name = Name::of(scan.next_word().ok_or("a word")?).ok_or("a name")?;
+        let table = match read_table(rt.alloc(), &mut scan, name) {
+            Ok(table) => table,
+            Err(_) => return Err("a table".into()),
+        };
+        let mut written = Text::new(rt.alloc());
+        if write_table(&table, &mut written).is_err() {
+            return Err("memory".into());
+        }
+        assert_eq!(rt; written.bytes(), wanted.as_bytes());
     }
-    let wanted = "table un\nM rd = O CH DI\nI read = CH:S/E rd\nI write = I uwr | I ubw\nend\n";
-    assert_eq!(rt; written.bytes(), wanted.as_bytes());
     Ok(())
 }

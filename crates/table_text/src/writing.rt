@@ -2,9 +2,9 @@
 
 ghost use Rattle.std.specs.Prelude.{◌≡◌, ◌<◌, ◌≤◌, ◌+◌, ◌*◌, ◌++◌, ◌∷◌, [], length, codes, flat_map, OnOk, OnErr};
 ghost use Rattle.fb_text.specs.Written.{after_words, line_bytes, lines_bytes};
-ghost use Rattle.class_relation.specs.Tables.{IsWhole, locals_of, answers_of};
+ghost use Rattle.class_relation.specs.Tables.{IsWhole, said_locals, said_answers};
 ghost use Rattle.class_words.specs.Words.{state_word, local_event_word, bus_event_word, outcome_word};
-ghost use Rattle.table_text.specs.Spelling.{local_words, snoop_words, signal_words, alternative_words, cell_words, local, answer};
+ghost use Rattle.table_text.specs.Spelling.{local_words, snoop_words, signal_words, alternative_words, cell_words, version_words, local, answer};
 ghost use Rattle.table_text.specs.Writing.{local_line, snoop_line, state_lines, cells_of, cells_bytes, written_table, table_room, state_room};
 ghost use Rattle.moesi_state.specs.States.{all_states};
 
@@ -119,14 +119,14 @@ fn snoop_alternatives(text: &mut Text, alternatives: &[SnoopAction])
     }
 }
 
-/// Appends the line of a local cell, where it has alternatives.
+/// Appends the line of a local cell, where the table says alternatives.
 fn local_line(text: &mut Text, table: &Table, state: State, event: LocalEvent)
     requires { 256 ≤ text.old.spare }
     ensures bytes { text.new.bytes
         ≡ text.old.bytes ++ cells_bytes (local_line table.now state event) }
     ensures spare { text.old.spare ≤ text.new.spare + 256 }
 {
-    let alternatives = table.local(state, event);
+    let alternatives = table.said_local(state, event);
     if alternatives.is_empty() {
         return;
     }
@@ -136,14 +136,14 @@ fn local_line(text: &mut Text, table: &Table, state: State, event: LocalEvent)
     text.push(b"\n");
 }
 
-/// Appends the line of an answer cell, where it has alternatives.
+/// Appends the line of an answer cell, where the table says alternatives.
 fn snoop_line(text: &mut Text, table: &Table, state: State, event: BusEvent)
     requires { 256 ≤ text.old.spare }
     ensures bytes { text.new.bytes
         ≡ text.old.bytes ++ cells_bytes (snoop_line table.now state event) }
     ensures spare { text.old.spare ≤ text.new.spare + 256 }
 {
-    let alternatives = table.snoop(state, event);
+    let alternatives = table.said_snoop(state, event);
     if alternatives.is_empty() {
         return;
     }
@@ -211,7 +211,7 @@ fn all_lines(text: &mut Text, table: &Table)
 pub fn table_room() -> usize
     ensures { result ≡ table_room }
 {
-    16_700
+    19_300
 }
 
 /// Appends the one written spelling of a table, for which there is room.
@@ -238,14 +238,18 @@ pub fn write_table(table: &Table, text: &mut Text) -> Result<(), NoMemory>
 }
 
 fn head(text: &mut Text, table: &Table)
-    requires { 39 ≤ text.old.spare }
+    requires { 49 ≤ text.old.spare }
     ensures whole { IsWhole table.now }
     ensures bytes { text.new.bytes
-        ≡ text.old.bytes ++ line_bytes (codes "table" ∷ table.now.name ∷ []) }
-    ensures spare { text.old.spare ≤ text.new.spare + 39 }
+        ≡ text.old.bytes
+        ++ line_bytes (codes "table" ∷ table.now.name ∷ version_words table.now.version) }
+    ensures spare { text.old.spare ≤ text.new.spare + 49 }
 {
     let name = table.name();
     text.push(b"table ");
     text.push(name.bytes());
+    if table.version() != 1 {
+        text.push(b" version 2");
+    }
     text.push(b"\n");
 }

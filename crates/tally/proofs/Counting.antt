@@ -9,6 +9,7 @@ use Rattle.bus_signals.specs.declared.BusEvent.{BusEvent}
 use Rattle.bus_signals.specs.Signals.{event_number}
 use Rattle.bus_signals.proofs.Events.{bus_listed, bus_below}
 use Rattle.class_relation.specs.Tables.{bus_events}
+use Rattle.class_relation.specs.Versions.{older_bus_events}
 use Rattle.bus_model.specs.Places.{count_where}
 use Rattle.bus_model.specs.Events.{Event, Local, Drop, Raise, Grant, Connect, DataPhase, Done}
 use Rattle.bus_model.specs.Entries.{Entry, entries, entries_after, entries_with, with_entry, entries_of}
@@ -191,8 +192,8 @@ sum_of_events journal = let all = sum_after [] journal in omega (arith, all)
 -- The lines by the counts of a journal are those of its bus events.
 pub lines_by_counts :
     (journal : List Event) (counts : List ℕ) → counts ≡ connect_counts journal
-    → flat_map (counts_line counts) bus_events ≡ flat_map (event_line journal) bus_events
-lines_by_counts journal counts is = ap (λ (cs : List ℕ). flat_map (counts_line cs) bus_events) is
+    → flat_map (counts_line counts) older_bus_events ≡ flat_map (event_line journal) older_bus_events
+lines_by_counts journal counts is = ap (λ (cs : List ℕ). flat_map (counts_line cs) older_bus_events) is
 
 -- Five pieces after a text, one after another.
 pub five_pieces :

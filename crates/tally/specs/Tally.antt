@@ -1,10 +1,11 @@
--- The tally of a run: how often each bus event was connected, and the sum of the replies of reads.
+-- The tally of a run: how often each bus event was connected, and the sum of the replies.
 use Rattle.std.specs.Prelude.{ℕ, suc, Bool, false, List, [], ◌∷◌, ◌++◌, Option, Some, None, length, map, codes, decimal, unwrap_or, slice_set, slice_index}
 use Rattle.std.specs.List.{flat_map, sum_by}
 use Rattle.fb_text.specs.Written.{line_bytes}
 use Rattle.bus_signals.specs.declared.BusEvent.{BusEvent}
 use Rattle.bus_signals.specs.Signals.{same_event, event_number}
 use Rattle.class_relation.specs.Tables.{bus_events}
+use Rattle.class_relation.specs.Versions.{older_bus_events}
 use Rattle.class_words.specs.Words.{bus_event_word}
 use Rattle.bus_model.specs.Places.{count_where}
 use Rattle.bus_model.specs.Events.{Event, Local, Drop, Raise, Grant, Connect, DataPhase, Done}
@@ -40,13 +41,13 @@ abbrev pub event_line : List Event → BusEvent → List ℕ
 event_line journal event = tally_line (bus_event_word event) (connect_count journal event)
 
 -- The lines of the tally of a generated setup that was run, with the journal and the history of the
--- run.
+-- run. A generated setup has no swaps, and so the event that only swaps use has no line.
 abbrev pub tally_text : ℕ → List Event → List Entry → List ℕ
 tally_text n journal history =
     tally_line (codes "seed") n
     ++ (tally_line (codes "accesses") 100000
     ++ (tally_line (codes "events") (length journal)
-    ++ (flat_map (event_line journal) bus_events
+    ++ (flat_map (event_line journal) older_bus_events
     ++ tally_line (codes "sum") (replies_sum history))))
 
 -- ---- what the code counts

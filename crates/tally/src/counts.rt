@@ -48,7 +48,7 @@ pub fn connect_counts(journal: &[Event]) -> [u64; EVENT_COUNT]
     requires { length journal.now < 2 ^ 32 }
     ensures { result ≡ counts_of journal.now }
 {
-    let mut counts = [0; 9];
+    let mut counts = [0; EVENT_COUNT];
     for event in journal {
         count_event(&mut counts, event);
     }

@@ -1,4 +1,4 @@
-//! The tally of a run: lines of counts, one of them for each bus event.
+//! The tally of a run: lines of counts, one of them for each bus event but that of swaps.
 #![tactic(auto)]
 
 mod counts;

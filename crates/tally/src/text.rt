@@ -12,6 +12,10 @@ use class_words::bus_event_text;
 use fb_text::Text;
 use journal::Event;
 
+/// How many bus events have a line: all but the last, which only swaps use. A generated setup has
+/// no swaps.
+const TALLIED: usize = EVENT_COUNT - 1;
+
 /// The number of accesses of a generated setup.
 const ACCESSES: u64 = 100_000;
 
@@ -49,6 +53,6 @@ pub fn write_tally(n: u64, journal: &[Event], text: &mut Text)
     line(text, "seed", n);
     line(text, "accesses", ACCESSES);
     line(text, "events", journal.len() as u64);
-    event_lines(text, &connect_counts(journal), &BUS_EVENTS);
+    event_lines(text, &connect_counts(journal), &BUS_EVENTS[..TALLIED]);
     line(text, "sum", replies_sum(journal));
 }

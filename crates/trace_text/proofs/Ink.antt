@@ -4,7 +4,7 @@ use Rattle.std.specs.Prelude.{decimal, codes}
 use Rattle.std.specs.List.{AllByRecursion}
 use Rattle.fb_text.specs.Places.{Words}
 use Rattle.bus_signals.specs.declared.Access.{Access}
-use Rattle.bus_signals.specs.declared.Access.TheVariants.{Read, Write, Pass, Flush}
+use Rattle.bus_signals.specs.declared.Access.TheVariants.{Read, Write, Pass, Flush, Swap}
 use Rattle.bus_signals.specs.declared.Response.{Response}
 use Rattle.bus_signals.specs.declared.BusEvent.{BusEvent}
 use Rattle.bus_signals.proofs.Events.{each_bus}
@@ -115,6 +115,10 @@ done_ink (Pass a) None h = (refl, (number_ink a (omega arith), tt))
 done_ink (Pass a) (Some r) h = absurd h
 done_ink (Flush a) None h = (refl, (number_ink a (omega arith), tt))
 done_ink (Flush a) (Some r) h = absurd h
+done_ink (Swap a v) (Some r) h =
+    let k = h.0 in
+    (refl, (number_ink a (omega arith), (number_ink v h.1, (refl, (number_ink r h.2, tt)))))
+done_ink (Swap a v) None h = absurd h
 
 carried_ink : (d : Option Done) → IsCarried d → AreInk (carried_words d)
 carried_ink None h = (refl, tt)

@@ -5,7 +5,7 @@ use Rattle.std.specs.List.{join_with_byte, AllByRecursion}
 use Rattle.std.proofs.lemmas.Fmt.{length-decimal-le}
 use Rattle.fb_text.specs.Places.{Words}
 use Rattle.bus_signals.specs.declared.Access.{Access}
-use Rattle.bus_signals.specs.declared.Access.TheVariants.{Read, Write, Pass, Flush}
+use Rattle.bus_signals.specs.declared.Access.TheVariants.{Read, Write, Pass, Flush, Swap}
 use Rattle.bus_signals.specs.declared.Response.{Response}
 use Rattle.bus_signals.specs.declared.BusEvent.{BusEvent}
 use Rattle.bus_signals.proofs.Events.{each_bus}
@@ -140,7 +140,7 @@ takers_short : (ps : Words) → weight ps ≤ 55 → length (takers_text ps) ≤
 takers_short [] h = omega arith
 takers_short (p ∷ ps) h = let l = joined_length 44 p ps in omega arith
 
-done_short : (a : Access) (reply : Option ℕ) → IsReplied a reply → weight (access_words a ++ reply_words reply) ≤ 24
+done_short : (a : Access) (reply : Option ℕ) → IsReplied a reply → weight (access_words a ++ reply_words reply) ≤ 35
 done_short (Read a) (Some v) h = let l = address_short a h.0 in let k = value_short v h.1 in omega arith
 done_short (Read a) None h = absurd h
 done_short (Write a v) None h = let l = address_short a h.0 in let k = value_short v h.1 in omega arith
@@ -149,8 +149,11 @@ done_short (Pass a) None h = let l = address_short a h in omega arith
 done_short (Pass a) (Some r) h = absurd h
 done_short (Flush a) None h = let l = address_short a h in omega arith
 done_short (Flush a) (Some r) h = absurd h
+done_short (Swap a v) (Some r) h =
+    let l = address_short a h.0 in let k = value_short v h.1 in let m = value_short r h.2 in omega arith
+done_short (Swap a v) None h = absurd h
 
-carried_short : (d : Option Done) → IsCarried d → weight (carried_words d) ≤ 24
+carried_short : (d : Option Done) → IsCarried d → weight (carried_words d) ≤ 35
 carried_short None h = omega arith
 carried_short (Some d) h = done_short d.access d.reply h
 

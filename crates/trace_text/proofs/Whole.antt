@@ -11,7 +11,7 @@ use Rattle.moesi_state.specs.declared.State.{State}
 use Rattle.bus_signals.specs.declared.Access.{Access}
 use Rattle.bus_signals.specs.declared.Access.TheVariants as access
 use Rattle.bus_signals.specs.declared.LocalEvent.{LocalEvent}
-use Rattle.bus_signals.specs.declared.LocalEvent.TheVariants.{Read, Write, Pass, Flush}
+use Rattle.bus_signals.specs.declared.LocalEvent.TheVariants.{Read, Write, Pass, Flush, Swap}
 use Rattle.journal.specs.declared.answers.Answer.{Answer}
 use Rattle.journal.specs.declared.event.Done.{Done}
 use Rattle.journal.specs.declared.event.Takers.{Takers}
@@ -320,6 +320,8 @@ done_again (access.Pass a) None h = rw (address_again a h) refl
 done_again (access.Pass a) (Some r) h = absurd h
 done_again (access.Flush a) None h = rw (address_again a h) refl
 done_again (access.Flush a) (Some r) h = absurd h
+done_again (access.Swap a v) (Some r) h = rw (address_again a h.0, value_again v h.1, value_again r h.2) refl
+done_again (access.Swap a v) None h = absurd h
 
 pub done_at_again : (d : Done) → IsDone d → done_at (done_words d) ≡ Some d
 done_at_again d h = done_again d.access d.reply h
@@ -332,6 +334,7 @@ carried_some (access.Read a) reply d h = rw h refl
 carried_some (access.Write a v) reply d h = rw h refl
 carried_some (access.Pass a) reply d h = rw h refl
 carried_some (access.Flush a) reply d h = rw h refl
+carried_some (access.Swap a v) reply d h = rw h refl
 
 pub carried_at_again : (d : Option Done) → IsCarried d → carried_at (carried_words d) ≡ Some d
 unfolding carried_at
@@ -383,6 +386,23 @@ kind_is Flush a ws d h e =
     let end = ended_some (done (access.Flush a) None) ws d e in
     with_done (codes "flush" ∷ decimal a ∷ ws) (access.Flush a) None d end.1
     (ap (λ (z : Words). codes "flush" ∷ decimal a ∷ z) end.0) h
+kind_is Swap a ws d h e =
+    let v = bind_some (by (number_between 0 4294967295) ws)
+    (λ v. this (codes "=") v.1 >>=
+    λ more. by (number_between 0 4294967295) more >>= λ r. ended (done (access.Swap a v.0) (Some r.0)) r.1) d e in
+    let n = next_number 4294967295 ws v.0 (omega arith) v.1 in
+    let more = bind_some (this (codes "=") v.0.1)
+    (λ more. by (number_between 0 4294967295) more >>= λ r. ended (done (access.Swap a v.0.0) (Some r.0)) r.1) d v.2 in
+    let r = bind_some (by (number_between 0 4294967295) more.0)
+    (λ r. ended (done (access.Swap a v.0.0) (Some r.0)) r.1) d more.2 in
+    let m = next_number 4294967295 more.0 r.0 (omega arith) r.1 in
+    let end = ended_some (done (access.Swap a v.0.0) (Some r.0.0)) r.0.1 d r.2 in
+    with_done (codes "swap" ∷ decimal a ∷ ws) (access.Swap a v.0.0) (Some r.0.0) d end.1
+    (ap (λ (z : Words). codes "swap" ∷ decimal a ∷ z)
+    (n.0
+    ∙ ap (λ (z : Words). decimal v.0.0 ∷ z)
+    (this_some (codes "=") v.0.1 more.0 more.1
+    ∙ ap (λ (z : Words). codes "=" ∷ z) (m.0 ∙ ap (λ (z : Words). decimal r.0.0 ∷ z) end.0)))) (h, n.1, m.1)
 
 pub done_at_is : (ws : Words) (d : Done) → done_at ws ≡ Some d → (ws ≡ done_words d) × IsDone d
 unfolding done_at IsReadDone

@@ -2,7 +2,7 @@
 use Rattle.std.specs.Prelude.{◌≡◌, ◌≢◌, ℕ, ◌≤◌, List, [], ◌∷◌, length, Option, Some, None}
 use Rattle.std.specs.List.{AllByRecursion}
 use Rattle.bus_signals.specs.declared.Access.{Access}
-use Rattle.bus_signals.specs.declared.Access.TheVariants.{Read, Write, Pass, Flush}
+use Rattle.bus_signals.specs.declared.Access.TheVariants.{Read, Write, Pass, Flush, Swap}
 use Rattle.moesi_state.specs.declared.State.{State}
 use Rattle.journal.specs.declared.answers.Answer.{Answer}
 use Rattle.journal.specs.declared.event.Done.{Done}
@@ -34,7 +34,7 @@ pub record AreBoards (boards : List ℕ) : Type 0 where
   pub each : AllByRecursion IsBoard boards
   pub rising : IsRising boards
 
--- An access and its reply, which is there exactly for a read.
+-- An access and its reply, which is there exactly for a read or a swap.
 abbrev pub IsReplied : Access → Option ℕ → Type 0
 IsReplied (Read a) (Some v) = IsAddress a × IsValue v
 IsReplied (Read a) None = ⊥
@@ -44,6 +44,8 @@ IsReplied (Pass a) None = IsAddress a
 IsReplied (Pass a) (Some r) = ⊥
 IsReplied (Flush a) None = IsAddress a
 IsReplied (Flush a) (Some r) = ⊥
+IsReplied (Swap a v) (Some r) = IsAddress a × IsValue v × IsValue r
+IsReplied (Swap a v) None = ⊥
 
 -- A completed access.
 abbrev pub IsDone : Done → Type 0

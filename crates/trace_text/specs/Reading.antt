@@ -7,7 +7,7 @@ use Rattle.fb_text.specs.Number.{number_of}
 use Rattle.bus_signals.specs.declared.Access.{Access}
 use Rattle.bus_signals.specs.declared.Access.TheVariants as access
 use Rattle.bus_signals.specs.declared.LocalEvent.{LocalEvent}
-use Rattle.bus_signals.specs.declared.LocalEvent.TheVariants.{Read, Write, Pass, Flush}
+use Rattle.bus_signals.specs.declared.LocalEvent.TheVariants.{Read, Write, Pass, Flush, Swap}
 use Rattle.bus_signals.specs.declared.Response.{Response}
 use Rattle.moesi_state.specs.declared.State.{State}
 use Rattle.class_relation.specs.declared.SnoopAction.{SnoopAction}
@@ -219,12 +219,20 @@ abbrev pub written_as : ℕ → Words → Option Done
 written_as a ws =
     by (number_between 0 4294967295) ws >>= λ v. ended (done (access.Write a v.0) None) v.1
 
+-- The word that was written and the one that was read, after the address of a swap.
+abbrev pub swapped_as : ℕ → Words → Option Done
+swapped_as a ws =
+    by (number_between 0 4294967295) ws >>= λ v.
+    this (codes "=") v.1 >>= λ more.
+    by (number_between 0 4294967295) more >>= λ r. ended (done (access.Swap a v.0) (Some r.0)) r.1
+
 -- The rest of a completed access of this kind, after its address.
 abbrev pub done_with : LocalEvent → ℕ → Words → Option Done
 done_with Read a ws = read_as a ws
 done_with Write a ws = written_as a ws
 done_with Pass a ws = ended (done (access.Pass a) None) ws
 done_with Flush a ws = ended (done (access.Flush a) None) ws
+done_with Swap a ws = swapped_as a ws
 
 -- The rest of a completed access of this kind.
 abbrev pub done_as : LocalEvent → Words → Option Done

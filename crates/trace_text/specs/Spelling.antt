@@ -3,7 +3,7 @@ use Rattle.std.specs.Prelude.{ℕ, Bool, true, false, List, [], ◌∷◌, ◌++
 use Rattle.std.specs.List.{join_with_byte}
 use Rattle.fb_text.specs.Places.{Words}
 use Rattle.bus_signals.specs.declared.Access.{Access}
-use Rattle.bus_signals.specs.declared.Access.TheVariants.{Read, Write, Pass, Flush}
+use Rattle.bus_signals.specs.declared.Access.TheVariants.{Read, Write, Pass, Flush, Swap}
 use Rattle.bus_signals.specs.declared.Response.{Response}
 use Rattle.moesi_state.specs.declared.State.{State}
 use Rattle.journal.specs.declared.answers.Answer.{Answer}
@@ -59,8 +59,9 @@ access_words (Read a) = codes "read" ∷ decimal a ∷ []
 access_words (Write a v) = codes "write" ∷ decimal a ∷ decimal v ∷ []
 access_words (Pass a) = codes "pass" ∷ decimal a ∷ []
 access_words (Flush a) = codes "flush" ∷ decimal a ∷ []
+access_words (Swap a v) = codes "swap" ∷ decimal a ∷ decimal v ∷ []
 
--- The word that was read.
+-- The word that was read, by a read or a swap.
 abbrev pub reply_words : Option ℕ → Words
 reply_words None = []
 reply_words (Some v) = codes "=" ∷ decimal v ∷ []

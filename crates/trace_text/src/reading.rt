@@ -5,7 +5,7 @@ ghost use Rattle.std.specs.List.{before_first};
 ghost use Rattle.fb_text.specs.Lines.{is_line_feed};
 ghost use Rattle.class_words.specs.Words.{state_of, local_event_of, bus_event_of, outcome_of};
 ghost use Rattle.journal.specs.declared.event.Event.{Event};
-ghost use Rattle.trace_text.specs.Reading.{Gives, pieces, by, this, ended, number_between, board_of, source_of, takers_of, done, read_as, written_as, done_as, done_at, carried_at, local_at, drop_at, raise_at, grant_at, connect_at, data_at, event_at};
+ghost use Rattle.trace_text.specs.Reading.{Gives, pieces, by, this, ended, number_between, board_of, source_of, takers_of, done, read_as, written_as, swapped_as, done_as, done_at, carried_at, local_at, drop_at, raise_at, grant_at, connect_at, data_at, event_at};
 ghost use Rattle.trace_text.specs.Ranges.{InRange};
 ghost use Rattle.trace_text.specs.Spelling.{text_of_event, line_of_event};
 
@@ -116,6 +116,7 @@ fn done_as(line: &mut Pieces, kind: LocalEvent) -> Option<Done>
         LocalEvent::Write => write_done(line, addr),
         LocalEvent::Pass => at_end(line, without_reply(Access::Pass(addr))),
         LocalEvent::Flush => at_end(line, without_reply(Access::Flush(addr))),
+        LocalEvent::Swap => swap_done(line, addr),
     }
 }
 
@@ -149,6 +150,22 @@ fn write_done(line: &mut Pieces, addr: Addr) -> Option<Done>
 {
     let value = next_value(line)?;
     at_end(line, without_reply(Access::Write(addr, value)))
+}
+
+/// The word that was written, and the one that was read.
+fn swap_done(line: &mut Pieces, addr: Addr) -> Option<Done>
+    ensures { result ≡ swapped_as addr line.old }
+{
+    let value = next_value(line)?;
+    this(line, "=")?;
+    let old = next_value(line)?;
+    at_end(
+        line,
+        Done {
+            access: Access::Swap(addr, value),
+            reply: Some(old),
+        },
+    )
 }
 
 /// A completed access up to the end of the line, whose first word was taken.

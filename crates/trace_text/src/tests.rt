@@ -9,7 +9,7 @@ use moesi_state::{Outcome, State};
 use std::test::*;
 
 // The lines of two runs, and one of each kind that they lack.
-const LINES: [&str; 24] = [
+const LINES: [&str; 27] = [
     "raise 1",
     "grant 1 to 1 lines 10 rounds 0",
     "connect 1 rfo line 1 to M answers none",
@@ -34,6 +34,9 @@ const LINES: [&str; 24] = [
     "local 1 M to O done read 16383 = 4294967295",
     "data 1 flu line 0 from none into 2,10,16 states 1=I done evict",
     "local 2 E to E done pass 4",
+    "connect 2 usw line 0 to I answers 1=M+DI",
+    "data 2 usw line 0 from 1 into 1 states 2=I 1=M done swap 0 8 = 5",
+    "local 1 M to M done swap 3 4294967295 = 0",
 ];
 
 // Appends the line of the event that a line spells, where it spells one.

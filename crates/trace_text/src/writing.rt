@@ -257,10 +257,15 @@ fn access(text: &mut Text, access: &Access)
             word(text, "flush");
             address(text, *addr);
         }
+        Access::Swap(addr, new) => {
+            word(text, "swap");
+            address(text, *addr);
+            value(text, *new);
+        }
     }
 }
 
-/// The word that was read.
+/// The word that was read, by a read or a swap.
 fn reply(text: &mut Text, reply: Option<u32>)
     requires { 13 ≤ text.old.spare }
     ensures appends { Appends text.old text.new (each_behind 32 (reply_words reply)) 13 }

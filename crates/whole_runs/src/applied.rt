@@ -216,3 +216,76 @@ fn victims_make_room(rt: HostRuntime) -> Result<(), Fail> {
          data 1 rd line 2 from memory into none states 1=E done read 8 = 0\n",
     )
 }
+
+#[test]
+fn a_word_is_swapped_past_the_cache(rt: HostRuntime) -> Result<(), Fail> {
+    play(
+        rt.alloc(),
+        "memory 2\n",
+        "board 1 number 10 table cb cached 1 1 choose first\nwrite 0 5\nswap 0 9\n\
+         board 2 number 9 table un plain choose first\nswap 0 8\nswap 4 3\nend\n",
+        "raise 1\n\
+         grant 1 to 1 lines 10 rounds 0\n\
+         connect 1 rfo line 0 to M answers none\n\
+         data 1 rfo line 0 from memory into none states 1=M done write 0 5\n\
+         raise 2\n\
+         grant 2 to 2 lines 9 rounds 0\n\
+         ! connect 2 uwr line 0 to I answers 1=M+DI\n\
+         ! connect 2 urd line 0 to I answers 1=M+DI\n\
+         ! connect 2 usw line 0 to I answers none\n\
+         connect 2 usw line 0 to I answers 1=M+DI\n\
+         ! local 1 M to M done swap 0 9 = 5\n\
+         ! data 2 usw line 0 from memory into 1 states 2=I 1=M done swap 0 8 = 0\n\
+         ! data 2 usw line 0 from 1 into memory states 2=I 1=M done swap 0 8 = 5\n\
+         ! data 2 usw line 0 from 1 into 1 states 2=I 1=M done swap 0 8 = 8\n\
+         data 2 usw line 0 from 1 into 1 states 2=I 1=M done swap 0 8 = 5\n\
+         ! local 1 M to M done swap 0 9 = 5\n\
+         ! local 1 M to M done write 0 9\n\
+         local 1 M to M done swap 0 9 = 8\n\
+         raise 2\n\
+         grant 2 to 2 lines 9 rounds 0\n\
+         connect 2 usw line 1 to I answers none\n\
+         ! data 2 usw line 1 from memory into none states 2=I done swap 4 3 = 0\n\
+         data 2 usw line 1 from memory into memory states 2=I done swap 4 3 = 0\n",
+    )
+}
+
+#[test]
+fn a_copy_is_swapped(rt: HostRuntime) -> Result<(), Fail> {
+    play(
+        rt.alloc(),
+        "memory 1\n",
+        "board 1 number 10 table cb cached 1 1 choose first\nswap 0 1\nswap 0 2\n\
+         board 2 number 9 table up cached 1 1 choose first\nread 0\nswap 0 6\n\
+         board 3 number 7 table wt cached 1 1 choose first\nread 0\nswap 0 7\nend\n",
+        "raise 1\n\
+         grant 1 to 1 lines 10 rounds 0\n\
+         connect 1 rfo line 0 to M answers none\n\
+         ! data 1 rfo line 0 from memory into none states 1=M done swap 0 1 = 1\n\
+         data 1 rfo line 0 from memory into none states 1=M done swap 0 1 = 0\n\
+         raise 2\n\
+         grant 2 to 2 lines 9 rounds 0\n\
+         connect 2 rd line 0 to CH:S/E answers 1=O+CH+DI\n\
+         data 2 rd line 0 from 1 into none states 2=S 1=O done read 0 = 1\n\
+         raise 2\n\
+         grant 2 to 2 lines 9 rounds 0\n\
+         connect 2 bwr line 0 to CH:O/M answers 1=S+CH+SL\n\
+         ! data 2 bwr line 0 from none into memory,1 states 2=O 1=S done swap 0 6 = 6\n\
+         data 2 bwr line 0 from none into memory,1 states 2=O 1=S done swap 0 6 = 1\n\
+         raise 1\n\
+         grant 1 to 1 lines 10 rounds 0\n\
+         connect 1 inv line 0 to M answers 2=I\n\
+         ! data 1 inv line 0 from none into none states 1=M 2=I done swap 0 2 = 2\n\
+         data 1 inv line 0 from none into none states 1=M 2=I done swap 0 2 = 6\n\
+         raise 3\n\
+         grant 3 to 3 lines 7 rounds 0\n\
+         connect 3 rd line 0 to S answers 1=O+CH+DI\n\
+         data 3 rd line 0 from 1 into none states 3=S 1=O done read 0 = 2\n\
+         raise 3\n\
+         grant 3 to 3 lines 7 rounds 0\n\
+         ! connect 3 usw line 0 to S answers 1=O+DI\n\
+         connect 3 uwr line 0 to S answers 1=O+DI\n\
+         ! data 3 uwr line 0 from none into 1 states 3=S 1=O done swap 0 7 = 7\n\
+         data 3 uwr line 0 from none into 1 states 3=S 1=O done swap 0 7 = 2\n",
+    )
+}

@@ -253,6 +253,27 @@ fn a_race_goes_by_the_turns_of_its_workers(rt: HostRuntime) -> Result<(), Fail> 
     Ok(())
 }
 
+/// Two boards that swap 1 into the same word, which is a lock.
+const LOCK: &str = "board 1 number 10 table cb cached 1 1 choose first\nswap 0 1\n\
+    board 2 number 9 table un plain choose first\nswap 0 1\nend\n";
+
+/// Whether one of the two boards has the lock: it read 0, and the other read 1.
+fn one_has_the_lock(machine: &Machine) -> bool {
+    let replies = (last_reply(machine, 1), last_reply(machine, 2));
+    matches!(replies, (Some(0), Some(1)) | (Some(1), Some(0)))
+}
+
+#[test]
+fn one_of_two_boards_gets_a_lock(rt: HostRuntime) -> Result<(), Fail> {
+    let alloc = rt.alloc();
+    for _ in 0..20 {
+        let machine = machine(alloc, "memory 1\n", LOCK)?;
+        let machine = raced(&rt, alloc, machine, &OpenGate)?;
+        assert!(rt; one_has_the_lock(&machine));
+    }
+    Ok(())
+}
+
 #[test]
 fn a_hundred_races_are_replayed(rt: HostRuntime) -> Result<(), Fail> {
     let alloc = rt.alloc();

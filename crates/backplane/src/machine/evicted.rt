@@ -56,12 +56,18 @@ const ANSWERS: [(State, BusEvent, State, bool, bool, bool); 21] = [
 
 /// The table of a board that copies back.
 fn copy_back(alloc: Global, name: Name) -> Result<Table, PushFault> {
-    let mut table = Table::empty(alloc, name);
+    let mut table = Table::empty(alloc, name, 1);
     for (state, event, after, bus) in LOCAL {
+        if !table.says_local(event) || !table.says_bus(bus) {
+            return Err(PushFault::Full);
+        }
         let result = Outcome::Fixed(after);
         table.push_local(state, event, LocalAction { result, bus })?;
     }
     for (state, event, result, ch, di, sl) in ANSWERS {
+        if !table.says_answer(event) {
+            return Err(PushFault::Full);
+        }
         let response = Response { ch, di, sl };
         table.push_snoop(state, event, SnoopAction { result, response })?;
     }

@@ -27,3 +27,6 @@ returns-clause-pas c = record { from = λ answers. refl; row = refl; to = λ ans
 
 pub returns-clause-flu : goal.returns-clause-flu
 returns-clause-flu c = record { from = λ answers. refl; row = refl; to = λ answers. refl }
+
+pub returns-clause-usw : goal.returns-clause-usw
+returns-clause-usw c = record { from = λ answers. refl; row = refl; to = λ answers. refl }

@@ -12,3 +12,6 @@ returns-clause-no_grant_to_another c = WorkedFacts.no_grant_to_another
 
 pub returns-clause-no_drop_of_an_owned_victim : goal.returns-clause-no_drop_of_an_owned_victim
 returns-clause-no_drop_of_an_owned_victim c = WorkedFacts.no_drop_of_an_owned_victim
+
+pub returns-clause-no_swap_of_a_held_line : goal.returns-clause-no_swap_of_a_held_line
+returns-clause-no_swap_of_a_held_line c = WorkedFacts.no_swap_of_a_held_line

@@ -1,4 +1,5 @@
 use Rattle.bus_model.proofs.WorkedRuns
+use Rattle.bus_model.proofs.WorkedSwaps
 use Rattle.bus_model.proofs.WorkedRoom
 use Rattle.bus_model.proofs.WorkedCopies
 use Rattle.bus_model.proofs.WorkedFair
@@ -42,3 +43,9 @@ returns-clause-passed_over c = WorkedFair.passed_over_plays
 
 pub returns-clause-starving : goal.returns-clause-starving
 returns-clause-starving c = WorkedFair.starving_plays
+
+pub returns-clause-owned_swap : goal.returns-clause-owned_swap
+returns-clause-owned_swap c = WorkedSwaps.owned_swap_plays
+
+pub returns-clause-lock : goal.returns-clause-lock
+returns-clause-lock c = WorkedSwaps.lock_plays

@@ -16,6 +16,18 @@ returns-clause-write_through c = KnownTables.write_through_accepted
 pub returns-clause-whole_class : goal.returns-clause-whole_class
 returns-clause-whole_class c = KnownTables.whole_class_accepted
 
+pub returns-clause-whole_class_swapping : goal.returns-clause-whole_class_swapping
+returns-clause-whole_class_swapping c = KnownTables.whole_class_swapping_accepted
+
+pub returns-clause-swapping : goal.returns-clause-swapping
+returns-clause-swapping c = KnownTables.swapping_accepted
+
+pub returns-clause-no_swap : goal.returns-clause-no_swap
+returns-clause-no_swap c = KnownTables.no_swap_faulty
+
+pub returns-clause-swap_one_way : goal.returns-clause-swap_one_way
+returns-clause-swap_one_way c = KnownTables.swap_one_way_faulty
+
 pub returns-clause-hidden_copy : goal.returns-clause-hidden_copy
 returns-clause-hidden_copy c = KnownTables.hidden_copy_faulty
 

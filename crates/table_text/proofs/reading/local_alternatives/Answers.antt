@@ -1,7 +1,9 @@
-use Rattle.std.proofs.Common.{Ok, sym, ◌∙◌, ap, arith, rules, length, subst}
+use Rattle.std.proofs.Common.{◌≡◌, ℕ, Ok, sym, ◌∙◌, ap, arith, rules, length, subst}
 use Rattle.std.proofs.lemmas.Result.{err_from_is_err_and}
 use Rattle.std.proofs.lemmas.List.{length_push}
-use Rattle.class_relation.specs.Tables.{with_local, locals_of}
+use Rattle.std.specs.Prelude.{IsTrue}
+use Rattle.class_relation.specs.Versions.{is_local_said}
+use Rattle.class_relation.specs.Tables.{Table, with_local, said_locals}
 use Rattle.class_words.specs.Words.{outcome_of}
 use Rattle.table_text.specs.Reading.{Fails, local_at}
 use Rattle.table_text.proofs.Turns.{one_more, last, fails, full}
@@ -10,33 +12,37 @@ use Rattle.table_text.proofs.reading.local_alternatives.Goals as goal
 pub returns-in_err-action-clause-value : goal.returns-in_err-action-clause-value
 returns-in_err-action-clause-value c =
     let p = err_from_is_err_and c.from_residual.result c.from_residual.ensures.1 in
-    rw (p.1, p.2) (fails outcome_of local_at (λ t a. with_local t c.args.state c.args.event a) c.loop.counter
+    rw (p.1, p.2) (fails outcome_of (local_at c.args.table.now.version) (λ t a. with_local t c.args.state c.args.event a) c.loop.counter
     c.loop.missing c.loop.table c.loop.scan.words c.in_err-action.field-0.0 c.args.scan.now.line _
-    c.loop-test.true (rw c.loop.invariant.stays.line at c.in_err-action.ensures.value) c.loop.invariant.left)
+    c.loop-test.true (rw (c.loop.invariant.stays.line, c.loop.invariant.version) at c.in_err-action.ensures.value) c.loop.invariant.left)
 
 pub returns-then-not-more-clause-value : goal.returns-then-not-more-clause-value
 returns-then-not-more-clause-value c =
     sym c.loop.invariant.left
-    ∙ (last outcome_of local_at (λ t a. with_local t c.args.state c.args.event a) c.loop.counter c.loop.missing
+    ∙ (last outcome_of (local_at c.args.table.now.version) (λ t a. with_local t c.args.state c.args.event a) c.loop.counter c.loop.missing
     c.loop.table c.loop.scan.words c.in_ok-action.action c.local_action.new.scan.words c.loop-test.true
-    (rw c.if-not-more.true at c.in_ok-action.ensures.value) ∙ ap Ok (sym c.in-Ok.ensures.ok))
+    (rw (c.if-not-more.true, c.loop.invariant.version) at c.in_ok-action.ensures.value) ∙ ap Ok (sym c.in-Ok.ensures.ok))
 
 pub loop-preserved : goal.loop-preserved
 loop-preserved c = record {
   left =
-      rw c.in-Ok.ensures.ok (sym (one_more outcome_of local_at (λ t a. with_local t c.args.state c.args.event a)
+      rw c.in-Ok.ensures.ok (sym (one_more outcome_of (local_at c.args.table.now.version) (λ t a. with_local t c.args.state c.args.event a)
       c.loop.counter c.loop.missing c.loop.table c.loop.scan.words c.in_ok-action.action
       c.local_action.new.scan.words c.loop-test.true
-      (rw c.if-not-more.false at c.in_ok-action.ensures.value)) ∙ c.loop.invariant.left);
+      (rw (c.if-not-more.false, c.loop.invariant.version) at c.in_ok-action.ensures.value)) ∙ c.loop.invariant.left);
   count =
       ap length c.in-Ok.ensures.cell
-      ∙ (length_push (locals_of c.loop.table c.args.state c.args.event) c.in_ok-action.action ∙ omega arith);
+      ∙ (length_push (said_locals c.loop.table c.args.state c.args.event) c.in_ok-action.action ∙ omega arith);
+  version = ap (λ (t : Table). t.version) c.in-Ok.ensures.ok ∙ c.loop.invariant.version;
+  said =
+      subst (λ (v : ℕ). IsTrue (is_local_said v c.args.event))
+      (sym (ap (λ (t : Table). t.version) c.in-Ok.ensures.ok)) c.loop.invariant.said;
   stays = search rules;
 }
 
 pub returns-clause-value : goal.returns-clause-value
 returns-clause-value c =
     subst (λ (r : _). Fails c.no_local_room.result c.args.scan.now.line r)
-    (sym (full outcome_of local_at (λ t a. with_local t c.args.state c.args.event a) c.loop.counter c.loop.missing
+    (sym (full outcome_of (local_at c.args.table.now.version) (λ t a. with_local t c.args.state c.args.event a) c.loop.counter c.loop.missing
     c.loop.table c.loop.scan.words c.loop-test.false) ∙ c.loop.invariant.left)
     (rw c.loop.invariant.stays.line at c.no_local_room.ensures.value)

@@ -1,7 +1,9 @@
-use Rattle.std.proofs.Common.{Ok, sym, ◌∙◌, ap, arith, rules, length, subst}
+use Rattle.std.proofs.Common.{◌≡◌, ℕ, Ok, sym, ◌∙◌, ap, arith, rules, length, subst}
 use Rattle.std.proofs.lemmas.Result.{err_from_is_err_and}
 use Rattle.std.proofs.lemmas.List.{length_push}
-use Rattle.class_relation.specs.Tables.{with_answer, answers_of}
+use Rattle.std.specs.Prelude.{IsTrue}
+use Rattle.class_relation.specs.Versions.{is_answer_said}
+use Rattle.class_relation.specs.Tables.{Table, with_answer, said_answers}
 use Rattle.class_words.specs.Words.{state_of}
 use Rattle.table_text.specs.Reading.{Fails, snoop_at}
 use Rattle.table_text.proofs.Turns.{one_more, last, fails, full}
@@ -30,7 +32,10 @@ loop-preserved c = record {
       (rw c.if-not-more.false at c.in_ok-action.ensures.value)) ∙ c.loop.invariant.left);
   count =
       ap length c.in-Ok.ensures.cell
-      ∙ (length_push (answers_of c.loop.table c.args.state c.args.event) c.in_ok-action.action ∙ omega arith);
+      ∙ (length_push (said_answers c.loop.table c.args.state c.args.event) c.in_ok-action.action ∙ omega arith);
+  said =
+      subst (λ (v : ℕ). IsTrue (is_answer_said v c.args.event))
+      (sym (ap (λ (t : Table). t.version) c.in-Ok.ensures.ok)) c.loop.invariant.said;
   stays = search rules;
 }
 

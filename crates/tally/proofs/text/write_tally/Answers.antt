@@ -1,6 +1,6 @@
 use Rattle.std.proofs.Common.{List, ℕ, ap, ◌∙◌, ◌++◌, codes, length}
 use Rattle.std.specs.List.{flat_map}
-use Rattle.class_relation.specs.Tables.{bus_events}
+use Rattle.class_relation.specs.Versions.{older_bus_events}
 use Rattle.bus_model.specs.Entries.{entries}
 use Rattle.tally.specs.Tally.{tally_line, event_line, replies_sum}
 use Rattle.tally.proofs.Counting.{five_pieces, lines_by_counts}
@@ -12,7 +12,7 @@ returns-clause-tally c =
     five_pieces c.args.text.now.bytes c.line.new.text.bytes c.line-2.new.text.bytes c.line-3.new.text.bytes
     c.event_lines.new.text.bytes c.line-4.new.text.bytes
     (tally_line (codes "seed") c.args.n) (tally_line (codes "accesses") 100000)
-    (tally_line (codes "events") (length journal)) (flat_map (event_line journal) bus_events)
+    (tally_line (codes "events") (length journal)) (flat_map (event_line journal) older_bus_events)
     (tally_line (codes "sum") (replies_sum (entries journal)))
     c.line.ensures.appends.bytes
     c.line-2.ensures.appends.bytes

@@ -5,6 +5,7 @@ use Rattle.board.specs.Rack.{rack_spent}
 use Rattle.backplane.specs.declared.phase.Phase.TheVariants.{Connected}
 use Rattle.backplane.proofs.Counted.{spent-below, answered-fits, few-answers}
 use Rattle.backplane.proofs.Showing.{shown-connect}
+use Rattle.backplane.proofs.Shown.{transaction_shown}
 use Rattle.backplane.proofs.parts.Parts.connect.Goals as goal
 
 pub connect-connected-requires-clause-draws : goal.connect-connected-requires-clause-draws
@@ -16,6 +17,11 @@ spend-requires-clause-draws c =
     c.connect-connected.result c.connect-connected.ensures.transaction c.requires.counts.boards in
     answered-fits c.args.self.now.rack c.connect-connected.new.rack c.connect-connected.result.answers c.args.master
     c.connect-connected.ensures.draws few c.requires.counts.counts
+
+pub returns-clause-picks : goal.returns-clause-picks
+returns-clause-picks c = λ setup x s.
+    c.connect-connected.ensures.picks x s.rack
+    ∙ transaction_shown setup x c.args.self.now s c.args.master c.args.line c.args.event c.args.outcome
 
 pub returns-clause-shows : goal.returns-clause-shows
 returns-clause-shows c = λ setup x s.

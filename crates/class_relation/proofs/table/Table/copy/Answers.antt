@@ -1,6 +1,6 @@
 use Rattle.std.proofs.Common.{◌≡◌, List, refl, sym, subst}
+use Rattle.std.specs.List.{each_same}
 use Rattle.class_relation.specs.Rows.{rows}
-use Rattle.class_relation.specs.Tables.{CellsFit}
 use Rattle.class_relation.specs.declared.LocalAction.{LocalAction}
 use Rattle.class_relation.specs.declared.SnoopAction.{SnoopAction}
 use Rattle.class_relation.proofs.RowLemmas.{rows_again}
@@ -12,13 +12,9 @@ invariant_of-result c =
     rows_again c.self.inside.locals c.in-Ok.locals c.in-Ok.ensures.cases.whole in
     let answers : rows c.in-Ok-clone.answers ≡ rows c.self.inside.answers =
     rows_again c.self.inside.answers c.in-Ok-clone.answers c.in-Ok-clone.ensures.cases.whole in
-    record {
-      locals = rw locals c.self.invariant.locals;
-      answers = rw answers c.self.invariant.answers;
-      few_locals = subst (λ (cells : List (List LocalAction)). CellsFit cells) (sym locals) c.self.invariant.few_locals;
-      few_answers =
-          subst (λ (cells : List (List SnoopAction)). CellsFit cells) (sym answers) c.self.invariant.few_answers;
-    }
+    let swaps : c.in-Ok-clone-2.swaps.items ≡ c.self.inside.swaps.items =
+    each_same c.self.inside.swaps.items c.in-Ok-clone-2.swaps.items c.in-Ok-clone-2.ensures.cases.0 in
+    rw (locals, answers, swaps, c.copy.ensures.copy) c.self.invariant
 
 pub returns : goal.returns
 returns c =
