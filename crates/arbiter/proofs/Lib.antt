@@ -1,3 +1,4 @@
+pub mod Above
 pub mod Cover
 pub mod Members
 pub mod Driven

@@ -1,7 +1,7 @@
 //! The arbitration lines while boards compete.
 
 ghost use Rattle.std.specs.Prelude.{◌≡◌, ◌+◌, ◌*◌, ◌/◌, ◌^◌, ◌<◌, ◌≤◌, not, ◌&&◌, length};
-ghost use Rattle.bus_model.specs.Settling.{wired_lines, has_bit, driven as drives, next_lines, settled_lines, settled_rounds, SettlesIn, highest};
+ghost use Rattle.bus_model.specs.Settling.{number_bits, wired_lines, has_bit, driven_below, driven as drives, next_lines, settled_lines, settled_rounds, SettlesIn, highest};
 ghost use Rattle.arbiter.specs.Contests.{IsContest};
 
 use crate::steps::Steps;
@@ -39,11 +39,21 @@ fn cleared_below(number: u16, bit: u16) -> u16
     number / place * place
 }
 
+/// A place above each bit that is on in the lines and off in the number.
+fn place_above(lines: u16, number: u16) -> u16
+    ensures few { result ≤ number_bits }
+    ensures above { driven_below number_bits lines number ≡ driven_below result lines number }
+{
+    let disagreeing = lines & (lines ^ number);
+    let place = 16 - disagreeing.leading_zeros() as u16;
+    place.min(10)
+}
+
 /// What a board with this number drives against these lines.
 fn driven(lines: u16, number: u16) -> u16
     ensures { result ≡ drives lines number }
 {
-    let mut bit = 10u16;
+    let mut bit = place_above(lines, number);
     while bit > 0 {
         bit -= 1;
         if disagrees(lines, number, bit) {

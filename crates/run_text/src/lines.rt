@@ -15,7 +15,7 @@ fn number(text: &mut Text, value: u64)
     requires { 21 ≤ text.old.spare }
     ensures appends { Appends text.old text.new (32 ∷ decimal value) 21 }
 {
-    text.push(b" ");
+    text.byte(b' ');
     text.number(value);
 }
 
@@ -44,7 +44,7 @@ pub fn write_reply(entry: &Entry, text: &mut Text)
                 number(text, u64::from(entry.place));
                 number(text, u64::from(addr.0));
                 number(text, u64::from(reply));
-                text.push(b"\n");
+                text.byte(b'\n');
             }
         }
         Access::Write(_, _) | Access::Pass(_) | Access::Flush(_) => {}
@@ -60,7 +60,7 @@ pub fn write_memory(line: LineNo, words: [u32; 4], text: &mut Text)
     text.push(b"memory");
     number(text, u64::from(line.0));
     four_words(text, words);
-    text.push(b"\n");
+    text.byte(b'\n');
 }
 
 /// Appends the line of a copy.
@@ -72,8 +72,8 @@ pub fn write_copy(board: BoardNo, line: LineNo, state: State, words: [u32; 4], t
     text.push(b"copy");
     number(text, u64::from(board.0));
     number(text, u64::from(line.0));
-    text.push(b" ");
+    text.byte(b' ');
     text.push(state_text(state).as_bytes());
     four_words(text, words);
-    text.push(b"\n");
+    text.byte(b'\n');
 }

@@ -24,7 +24,7 @@ fn word(text: &mut Text, word: &str)
     requires { length word.now < text.old.spare }
     ensures appends { Appends text.old text.new (32 ∷ word.now) (length word.now + 1) }
 {
-    text.push(b" ");
+    text.byte(b' ');
     text.push(word.as_bytes());
 }
 
@@ -32,6 +32,10 @@ fn digits(text: &mut Text, value: u64)
     requires { length (decimal value) ≤ text.old.spare }
     ensures appends { Appends text.old text.new (decimal value) (length (decimal value)) }
 {
+    if value < 10 {
+        text.byte(b'0' + value as u8);
+        return;
+    }
     let mut buffer = Buffer::new();
     text.push(buffer.format(value).as_bytes());
 }
@@ -41,7 +45,7 @@ fn number(text: &mut Text, value: u64)
     requires { length (decimal value) < text.old.spare }
     ensures appends { Appends text.old text.new (32 ∷ decimal value) (length (decimal value) + 1) }
 {
-    text.push(b" ");
+    text.byte(b' ');
     digits(text, value);
 }
 
@@ -103,7 +107,7 @@ fn outcome(text: &mut Text, outcome: Outcome)
         Outcome::OnHit { hit, miss } => {
             text.push(b" CH:");
             text.push(state_text(hit).as_bytes());
-            text.push(b"/");
+            text.byte(b'/');
             text.push(state_text(miss).as_bytes());
         }
     }
@@ -116,7 +120,7 @@ fn placed(text: &mut Text, place: &(BoardNo, State))
     ensures appends { Appends text.old text.new (32 ∷ placed_word place.now) 5 }
 {
     board(text, place.0);
-    text.push(b"=");
+    text.byte(b'=');
     text.push(state_text(place.1).as_bytes());
 }
 
@@ -148,7 +152,7 @@ fn answer(text: &mut Text, answer: &Answer)
     ensures appends { Appends text.old text.new (32 ∷ answer_word answer.now) 14 }
 {
     board(text, answer.board);
-    text.push(b"=");
+    text.byte(b'=');
     text.push(state_text(answer.action.result).as_bytes());
     signal(text, answer.action.response.ch, "+CH");
     signal(text, answer.action.response.di, "+DI");
@@ -211,7 +215,7 @@ fn led_board(text: &mut Text, lead: u8, board: BoardNo)
     requires room { 3 ≤ text.old.spare }
     ensures appends { Appends text.old text.new (lead ∷ decimal board) 3 }
 {
-    text.push(&[lead]);
+    text.byte(lead);
     digits(text, u64::from(board.0));
 }
 
@@ -498,5 +502,5 @@ pub fn write_event(event: &Event, text: &mut Text)
         → (other ≡ event.now) × (rest ≡ []) }
 {
     event_text(text, event);
-    text.push(b"\n");
+    text.byte(b'\n');
 }

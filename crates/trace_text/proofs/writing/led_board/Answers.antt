@@ -18,9 +18,9 @@ returns c =
     record {
       appends = record {
         bytes =
-            led c.args.text.now.bytes c.push.new.self.bytes c.digits.new.text.bytes c.args.lead c.from.result
-            c.args.board c.push.ensures.bytes c.digits.ensures.appends.bytes same;
-        spare = omega (arith, c.push.ensures.spare, c.digits.ensures.appends.spare, short, two);
-        kept = omega (arith, c.push.ensures.room, c.digits.ensures.appends.kept);
+            led c.args.text.now.bytes c.byte.new.self.bytes c.digits.new.text.bytes c.args.lead c.from.result
+            c.args.board c.byte.ensures.bytes c.digits.ensures.appends.bytes same;
+        spare = omega (arith, c.byte.ensures.spare, c.digits.ensures.appends.spare, short, two);
+        kept = omega (arith, c.byte.ensures.room, c.digits.ensures.appends.kept);
       };
     }

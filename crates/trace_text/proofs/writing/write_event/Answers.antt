@@ -5,8 +5,8 @@ use Rattle.trace_text.proofs.writing.write_event.Goals as goal
 
 pub returns-clause-line : goal.returns-clause-line
 returns-clause-line c =
-    line_written c.args.text.now.bytes c.event_text.new.text.bytes c.push.new.self.bytes c.args.event.now
-    c.event_text.ensures.appends.bytes c.push.ensures.bytes
+    line_written c.args.text.now.bytes c.event_text.new.text.bytes c.byte.new.self.bytes c.args.event.now
+    c.event_text.ensures.appends.bytes c.byte.ensures.bytes
 
 pub returns-clause-short : goal.returns-clause-short
 returns-clause-short c = line_length c.args.event.now c.requires.in_range
