@@ -24,3 +24,4 @@ pub mod Moving
 pub mod Reading
 pub mod Opening
 pub mod Few
+pub mod Progressed

@@ -8,3 +8,4 @@ pub mod Histories
 pub mod Standing
 pub mod Assembling
 pub mod Permits
+pub mod Served

@@ -16,4 +16,5 @@ pub use assembling::{AssembleFault, assemble};
 pub use machine::{Machine, NotARun};
 pub use moved::{Moved, Why};
 pub use needs::need;
+pub use phase::Phase;
 pub use sizes::Need;

@@ -15,6 +15,7 @@ mod applying;
 mod effects;
 #[cfg(test)]
 mod evicted;
+mod progress;
 mod reading;
 mod rounds;
 

@@ -15,6 +15,10 @@ use backplane::Machine;
 use bus_signals::BoardNo;
 use generator::SeededTurns;
 
+mod going;
+
+pub use going::{play_on, play_until, runs_go_on};
+
 /// Each board of a schedule has its turn.
 fn take_turns(machine: &mut Machine, turns: &[u8])
     requires boards { AllByRecursion (IsBoard machine.old) turns.now }

@@ -491,7 +491,7 @@ fn event_text(text: &mut Text, event: &Event)
 /// Appends the line of an event, with its line feed.
 pub fn write_event(event: &Event, text: &mut Text)
     requires in_range { InRange event.now }
-    requires room { 256 ≤ text.old.spare }
+    requires room { 253 ≤ text.old.spare }
     ensures line { text.new.bytes ≡ text.old.bytes ++ line_of_event event.now }
     ensures short { length (line_of_event event.now) ≤ 253 }
     ensures spare { text.old.spare ≤ text.new.spare + 253 }
