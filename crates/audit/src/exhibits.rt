@@ -10,9 +10,8 @@ ghost use Rattle.audit.specs.Exhibits.{local_change, answer_change, changed, cha
 
 use bus_signals::{Access, Addr, BusEvent, LocalEvent, Response};
 use class_relation::{LocalAction, Name, SnoopAction, Table};
-use moesi_state::Outcome;
-use moesi_state::State;
 use moesi_state::State::{E, I, M, O, S};
+use moesi_state::{Outcome, State};
 use no_memory::NoMemory;
 use setup::Setup;
 use std::alloc::Global;

@@ -175,6 +175,7 @@ fn action_of(kind: Kind, state: State, event: LocalEvent) -> Option<LocalAction>
 
 /// What a board of this protocol does for its own access, where it can be in this state and its
 /// table says it.
+#[tactic(auto, using(crate::proofs::LibraryLaws::known_action))]
 pub(crate) fn own_action(kind: Kind, state: State, event: LocalEvent) -> Option<LocalAction>
     ensures said { option_to_list result ≡ said_locals (protocol_table kind) state event }
     ensures known { IfSome result (λ action. IsTrue (is_bus_said 1 action.bus)) }

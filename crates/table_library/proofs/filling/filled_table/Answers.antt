@@ -9,10 +9,9 @@ use Rattle.table_library.proofs.filling.filled_table.Goals as goal
 pub loop-state-init : goal.loop-state-init
 loop-state-init g c = record {
   left =
-      ap (λ (table : Table).
-      filled (g.C.Cells.locals c.args.cells.now) (g.C.Cells.answers c.args.cells.now) table all_states)
-      c.empty-table.ensures;
-  version = ap (λ (table : Table). table.version) c.empty-table.ensures ∙ c.requires.version;
+      ap (λ (t : Table).
+      filled (g.C.Cells.locals c.args.cells.now) (g.C.Cells.answers c.args.cells.now) t all_states) c.empty-table.ensures;
+  version = ap (λ (t : Table). t.version) c.empty-table.ensures ∙ c.requires.version;
 }
 
 pub loop-state-preserved : goal.loop-state-preserved
