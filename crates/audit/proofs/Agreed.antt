@@ -1,54 +1,42 @@
 -- Where all tables are accepted, an event of any tables leads where it leads on the machine, what is played is what the
 -- machine plays, and no event has a harm.
-use Rattle.std.proofs.Common.{◌≡◌, ℕ, zero, suc, ◌+◌, ◌*◌, ◌<◌, ◌≤◌, Bool, true, false, cond, not, ◌&&◌, List, [], ◌∷◌, ◌++◌, Some, None, Option, length, map, mod-lt, ap, refl, sym, subst, ◌∙◌, inl, inr, ◌⊎◌, arith, append_assoc}
-use Rattle.std.proofs.lemmas.Bool.{and_from, and_parts, both_ways, eq-eqb, eqb-true, false_from_ne_true, le-leb, leb-true, not-true, not_from_true, or_cases}
+use Rattle.std.proofs.Common.{◌≡◌, ℕ, ◌<◌, Bool, true, false, cond, not, ◌&&◌, List, [], Some, None, Option, length, mod-lt, ap, refl, sym, subst, ◌∙◌, inl, inr, ◌⊎◌, arith}
+use Rattle.std.proofs.lemmas.Bool.{both_ways, eq-eqb, false_from_ne_true}
 use Rattle.std.proofs.lemmas.List.{get_or-set_same}
-use Rattle.std.specs.List.{AllByRecursion, list_all, list_any}
-use Rattle.std.specs.Prelude.{filter_map, nat_le, slice_index, slice_set, ◌==◌}
+use Rattle.std.specs.List.{list_any}
+use Rattle.std.specs.Prelude.{slice_index, slice_set, ◌==◌}
 use Rattle.bus_signals.specs.declared.Access.{Access}
 use Rattle.bus_signals.specs.declared.BusEvent.{BusEvent}
-use Rattle.bus_signals.specs.declared.BusEvent.TheVariants.{Flu}
 use Rattle.bus_signals.specs.declared.LocalEvent.{LocalEvent}
-use Rattle.bus_signals.specs.Accesses.{kind_of, offset_of, address_of}
+use Rattle.bus_signals.specs.Accesses.{kind_of, offset_of}
 use Rattle.bus_signals.specs.Meanings.{broadcasts, fills_row, writes_line, writes_plain_word, writes_word}
 use Rattle.bus_signals.proofs.Events.{each_bus}
 use Rattle.moesi_state.specs.declared.State.{State}
-use Rattle.moesi_state.specs.declared.State.TheVariants.{I}
 use Rattle.moesi_state.specs.declared.Outcome.{Outcome}
 use Rattle.moesi_state.specs.States.{holds}
-use Rattle.class_relation.specs.declared.LocalAction.{LocalAction}
 use Rattle.class_relation.specs.Permitted.{is_permitted_local}
-use Rattle.bus_model.specs.Places.{repeated}
-use Rattle.bus_model.specs.Setup.{AllInClass, Setup, WellFormed, access_count, board_places, line_count}
-use Rattle.bus_model.specs.Events.{Answer, Carried, Connect, DataPhase, Done, Drop, Event, Grant, Local, Raise, Takers, Transaction}
-use Rattle.bus_model.specs.Configuration.{Configuration, Idle, Row, is_copy, is_of_line, memory_line, no_words, opening, present_access, row_at, rows_of_line, state_at, words_at}
+use Rattle.bus_model.specs.Setup.{AllInClass, Setup, WellFormed, line_count}
+use Rattle.bus_model.specs.Events.{Carried, Connect, DataPhase, Drop, Event, Grant, Local, Raise, Takers, Transaction}
+use Rattle.bus_model.specs.Configuration.{Configuration, Idle, Row, is_copy, is_of_line, memory_line, present_access, row_at, state_at, words_at}
 use Rattle.bus_model.specs.Board.{access_line}
 use Rattle.bus_model.specs.Carrying.{answering_row, done_of, intervener_takes, master_words, memory_words, no_takers, reply_of, row_if, source_words, state_in, state_of_master, taken_words, takers_of, with_memory, written, written_by}
-use Rattle.bus_model.specs.Coherence.{LineCoherent, has_alone, owner_count}
 use Rattle.bus_model.specs.Connecting.{capturers, intervener}
-use Rattle.bus_model.specs.Entries.{Entry, Legal, LegalAfter, entries, entries_with, latest_line, owed_reply, with_entry}
 use Rattle.bus_model.specs.Soundness.{Sound}
 use Rattle.bus_model.specs.Steps.{Can, CanData, ForAccess, ForVictim, after, after_data}
-use Rattle.bus_model.specs.Turns.{Did, Finished, Turn, Waits, events_of_turns, played, turn}
 use Rattle.coherence.proofs.Cells.{permitted_local}
 use Rattle.coherence.proofs.ClassFacts.{implies, implies-not, implies-use, local_fact, sets_word}
-use Rattle.coherence.proofs.DataPhase.{after_data-is, answering_rows, done_boards, moved}
+use Rattle.coherence.proofs.DataPhase.{after_data-is, answering_rows, done_boards}
 use Rattle.coherence.proofs.DataSteps.{connected_sound}
 use Rattle.coherence.proofs.Lists.{all-in, filter_map-agree, in-find}
-use Rattle.coherence.proofs.Opening.{sound_opening}
 use Rattle.coherence.proofs.Progress.{board_there, line_within}
 use Rattle.coherence.proofs.Puts.{put_boards, put_rows}
 use Rattle.coherence.proofs.RowsKept.{row_sound}
 use Rattle.coherence.proofs.Seen.{row_state, row_words}
 use Rattle.coherence.proofs.SeenLine.{words_at-latest}
-use Rattle.coherence.proofs.Steps.{sound_after}
-use Rattle.coherence.proofs.Turns.{turns_are_steps}
-use Rattle.coherence.proofs.Words.{entries_more, latest_words}
+use Rattle.coherence.proofs.Words.{latest_words}
 use Rattle.audit.specs.Steps.{after_any, after_any_data, any_answering_row, any_memory_words, any_taken_words, carried_into, without_displaced}
-use Rattle.audit.specs.Turns.{any_played, any_turn, events_of_any}
-use Rattle.audit.proofs.Agreeing.{any_turn_same, displaced_not}
-use Rattle.audit.proofs.Ending.{any_and_rest}
-use Rattle.audit.proofs.Moved.{any_data-is, any_moved, any_rows}
+use Rattle.audit.proofs.Agreeing.{displaced_not}
+use Rattle.audit.proofs.Moved.{any_data-is, any_rows}
 
 -- ---- the word that a write or a swap carries
 

@@ -1,59 +1,43 @@
 -- Where all tables are accepted, a turn of any tables is the turn of the machine, and an event leads where it leads
 -- there.
-use Rattle.std.proofs.Common.{◌≡◌, ℕ, zero, suc, ◌+◌, ◌<◌, ◌≤◌, Bool, true, false, cond, not, ◌&&◌, List, [], ◌∷◌, ◌++◌, Some, None, Option, length, map, option_map, ap, refl, sym, subst, ◌∙◌, inl, inr, ◌⊎◌, arith, append_assoc}
-use Rattle.std.proofs.lemmas.Bool.{and_parts, both_ways, eq-eqb, false_from_ne_true, not-true, not_from_true}
-use Rattle.std.proofs.lemmas.List.{get_or-set_same}
-use Rattle.std.specs.List.{AllByRecursion, list_any}
-use Rattle.std.specs.Prelude.{filter_map, nat_le, slice_index, slice_set, ◌==◌}
+use Rattle.std.proofs.Common.{◌≡◌, ℕ, Bool, true, false, cond, not, ◌&&◌, List, [], ◌∷◌, Some, None, Option, length, map, option_map, ap, refl, sym, ◌∙◌, inl, inr, arith}
+use Rattle.std.specs.Prelude.{nat_le, ◌==◌}
 use Rattle.bus_signals.specs.declared.Access.{Access}
 use Rattle.bus_signals.specs.declared.BusEvent.{BusEvent}
 use Rattle.bus_signals.specs.declared.BusEvent.TheVariants.{Flu}
-use Rattle.bus_signals.specs.declared.LocalEvent.{LocalEvent}
-use Rattle.bus_signals.specs.Accesses.{kind_of, offset_of, address_of}
-use Rattle.bus_signals.specs.Meanings.{broadcasts, fills_row, writes_line, writes_plain_word, writes_word}
-use Rattle.bus_signals.proofs.Events.{each_bus}
+use Rattle.bus_signals.specs.Accesses.{kind_of}
 use Rattle.moesi_state.specs.declared.State.{State}
 use Rattle.moesi_state.specs.declared.State.TheVariants.{I}
 use Rattle.moesi_state.specs.declared.Outcome.{Outcome}
 use Rattle.moesi_state.specs.declared.Outcome.TheVariants.{Fixed, OnHit}
 use Rattle.moesi_state.specs.States.{holds}
-use Rattle.moesi_state.specs.Outcomes.{settled}
 use Rattle.class_relation.specs.declared.LocalAction.{LocalAction}
 use Rattle.class_relation.specs.declared.SnoopAction.{SnoopAction}
-use Rattle.class_relation.specs.Actions.{answer, has_answer, has_local, silently}
-use Rattle.class_relation.specs.Permitted.{is_empty, is_permitted_local}
+use Rattle.class_relation.specs.Actions.{answer, has_answer, silently}
+use Rattle.class_relation.specs.Permitted.{is_empty}
 use Rattle.class_relation.specs.Tables.{answers_of, locals_of}
 use Rattle.table_check.proofs.Accepting.{needed_local}
 use Rattle.bus_model.specs.Places.{count_where}
-use Rattle.bus_model.specs.Setup.{AllInClass, Cached, Plain, Setup, Shape, WellFormed, board_places, choose_of, line_count, shape_of, table_of}
-use Rattle.bus_model.specs.Events.{Answer, Carried, Connect, DataPhase, Done, Drop, Event, Grant, Local, Raise, Transaction}
-use Rattle.bus_model.specs.Configuration.{Configuration, Idle, Row, is_granted, is_of_line, memory_line, no_words, opening, present_access, progress_of, row_at, rows_of_line, state_at, words_at}
+use Rattle.bus_model.specs.Setup.{AllInClass, Cached, Plain, Setup, Shape, WellFormed, board_places, choose_of, shape_of, table_of}
+use Rattle.bus_model.specs.Events.{Answer, Connect, DataPhase, Done, Drop, Event, Grant, Local, Raise, Transaction}
+use Rattle.bus_model.specs.Configuration.{Configuration, Row, is_granted, present_access, progress_of, state_at}
 use Rattle.bus_model.specs.Board.{access_line, cell_of, has_no_room, is_clean, is_full, is_in_set, oldest, set_rows, victim}
-use Rattle.bus_model.specs.Carrying.{answering_row, carried_of, done_of, master_words, memory_words, reply_of, row_if, source_words, state_in, state_of_master, taken_words, takers_of, written, written_by}
 use Rattle.bus_model.specs.Connecting.{AnswersFit, other_holders}
-use Rattle.bus_model.specs.Entries.{Entry, Legal, LegalAfter, entries, entries_with, latest_line, owed_reply, with_entry}
 use Rattle.bus_model.specs.Soundness.{Sound}
-use Rattle.bus_model.specs.Steps.{Can, CanData, CanLocal, ForAccess, ForVictim, after, after_data}
+use Rattle.bus_model.specs.Steps.{Can, CanLocal}
 use Rattle.bus_model.specs.Turns.{Did, Finished, Turn, Waits, decide, decide_answer, own_transaction, pick, transaction_of, turn, victim_for}
-use Rattle.bus_model.specs.TurnParts.{access_turn, action_turn, bus_turn, request_turn, room_turn, transaction_turn, turn_for}
+use Rattle.bus_model.specs.TurnParts.{access_turn, action_turn, bus_turn, room_turn, transaction_turn, turn_for}
 use Rattle.bus_model.proofs.TurnInParts.{in_parts}
 use Rattle.coherence.proofs.Cells.{has_local-in, in_class_there, permitted_local, reached_at}
-use Rattle.coherence.proofs.ClassFacts.{implies, implies-not, implies-use, is_fixed, is_silent, local_fact, silent_facts, silent_is_fixed}
-use Rattle.coherence.proofs.DataPhase.{after_data-is, answering_rows, done_boards, moved}
-use Rattle.coherence.proofs.DataSteps.{connected_sound}
-use Rattle.coherence.proofs.Lists.{In, all-in, filter_map-agree, in-filter}
+use Rattle.coherence.proofs.ClassFacts.{is_fixed, is_silent, silent_facts, silent_is_fixed}
+use Rattle.coherence.proofs.Lists.{In, in-filter}
 use Rattle.coherence.proofs.Places.{IsPlace, in-places}
-use Rattle.coherence.proofs.Progress.{board_there, line_within}
-use Rattle.coherence.proofs.Puts.{put_boards, put_rows}
-use Rattle.coherence.proofs.Seen.{row_words}
-use Rattle.coherence.proofs.SeenLine.{words_at-latest}
+use Rattle.coherence.proofs.Progress.{board_there}
 use Rattle.coherence.proofs.Turns.{turns_are_steps}
-use Rattle.coherence.proofs.Words.{latest_words}
-use Rattle.audit.specs.Filled.{fallback_local, fallback_answer, filled, filled_answers, filled_cell, filled_locals, outcome_by, settled_alone}
-use Rattle.audit.specs.Steps.{after_any, after_any_data, any_answering_row, any_memory_words, any_taken_words, carried_into, displaced, without_displaced}
+use Rattle.audit.specs.Filled.{fallback_local, fallback_answer, filled, filled_cell, outcome_by, settled_alone}
+use Rattle.audit.specs.Steps.{displaced}
 use Rattle.audit.specs.Turns.{any_turn, event_turn, guarded, unless_held}
 use Rattle.audit.proofs.Cells.{answers_cell_filled, cell_filled}
-use Rattle.audit.proofs.Moved.{any_data-is, any_moved, any_rows}
 
 -- ---- cells
 

@@ -1,9 +1,8 @@
 -- Where all tables are accepted, what is played of any tables is what the machine plays, and no event has a harm.
-use Rattle.std.proofs.Common.{◌≡◌, ℕ, zero, suc, ◌+◌, ◌*◌, ◌<◌, ◌≤◌, Bool, true, false, cond, not, ◌&&◌, List, [], ◌∷◌, ◌++◌, Some, None, Option, length, ap, refl, sym, subst, ◌∙◌, inl, inr, ◌⊎◌, arith, append-nil, append_assoc}
-use Rattle.std.proofs.lemmas.Bool.{and_from, eq-eqb, eqb-false, eqb-true, le-leb, leb-true}
+use Rattle.std.proofs.Common.{◌≡◌, ℕ, suc, ◌*◌, Bool, true, false, cond, not, ◌&&◌, List, [], ◌∷◌, ◌++◌, Some, None, Option, length, ap, refl, sym, subst, ◌∙◌, append-nil, append_assoc}
+use Rattle.std.proofs.lemmas.Bool.{and_from, eq-eqb, eqb-true, le-leb}
 use Rattle.std.specs.List.{AllByRecursion, list_all}
 use Rattle.std.specs.Prelude.{nat_le, ◌==◌}
-use Rattle.bus_signals.specs.declared.Access.{Access}
 use Rattle.bus_model.specs.Places.{repeated}
 use Rattle.bus_model.specs.Setup.{AllInClass, Setup, WellFormed, access_count, board_places, line_count}
 use Rattle.bus_model.specs.Events.{Connect, DataPhase, Done, Drop, Event, Grant, Local, Raise}
@@ -21,12 +20,11 @@ use Rattle.coherence.proofs.Rounds.{turn_and_rest}
 use Rattle.coherence.proofs.Steps.{every_run_is_sound}
 use Rattle.coherence.proofs.Turns.{turns_are_steps}
 use Rattle.coherence.proofs.Words.{entries_more}
-use Rattle.audit.specs.declared.finding.Harm.{Harm}
-use Rattle.audit.specs.declared.finding.Harm.TheVariants.{Reply, Owners, Shared, Words, Memory}
+use Rattle.audit.specs.declared.finding.Harm.TheVariants.{Reply}
 use Rattle.audit.specs.Steps.{after_any}
 use Rattle.audit.specs.Turns.{any_played, any_turn, events_of_any}
 use Rattle.audit.specs.Harms.{done_in, first_of_harms, harm_after, harm_at, line_harm, lines_harm, reply_harm, same_reply, same_words}
-use Rattle.audit.specs.First.{Audit, audited, first_from, first_harm, found_or, up_to}
+use Rattle.audit.specs.First.{audited, first_from, first_harm, found_or, up_to}
 use Rattle.audit.proofs.Agreed.{after_same}
 use Rattle.audit.proofs.Agreeing.{any_turn_same}
 use Rattle.audit.proofs.Ending.{any_and_rest}

@@ -7,7 +7,7 @@ use Rattle.std.proofs.lemmas.List.{map-append, take_all}
 use Rattle.std.proofs.lemmas.List.Elements.{filter-append}
 use Rattle.bus_signals.specs.declared.BusEvent.{BusEvent}
 use Rattle.bus_model.specs.Places.{places_from}
-use Rattle.bus_model.specs.Setup.{Setup, board_places}
+use Rattle.bus_model.specs.Setup.{Setup}
 use Rattle.bus_model.specs.Configuration.{Configuration}
 use Rattle.bus_model.specs.Connecting.{other_holders}
 use Rattle.bus_model.specs.Events.{Answer}

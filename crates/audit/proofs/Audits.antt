@@ -1,19 +1,19 @@
 -- An audit that is made turn by turn is the one of the definition.
-use Rattle.std.proofs.Common.{◌≡◌, ℕ, zero, suc, ◌+◌, ◌*◌, ◌<◌, ◌≤◌, List, [], ◌∷◌, ◌++◌, Some, None, Option, length, take, ap, refl, sym, subst, ◌∙◌, arith, append-nil, append_assoc, length-append}
+use Rattle.std.proofs.Common.{◌≡◌, ℕ, zero, suc, ◌+◌, ◌*◌, ◌<◌, ◌≤◌, List, [], ◌∷◌, ◌++◌, Some, None, Option, length, take, ap, refl, sym, ◌∙◌, arith, append-nil, append_assoc, length-append}
 use Rattle.bus_model.specs.Places.{repeated}
 use Rattle.bus_model.specs.Setup.{Setup, access_count, board_places}
 use Rattle.bus_model.specs.Events.{Event}
 use Rattle.bus_model.specs.Configuration.{Configuration, opening}
-use Rattle.bus_model.specs.Entries.{Entry, entries, entries_after, entries_with}
+use Rattle.bus_model.specs.Entries.{Entry, entries_after, entries_with}
 use Rattle.bus_model.specs.Turns.{Did, Finished, Turn, Waits}
 use Rattle.audit.specs.declared.finding.Harm.{Harm}
 use Rattle.audit.specs.declared.finding.Finding.{Finding}
 use Rattle.audit.specs.Steps.{after_any, after_any_all}
-use Rattle.audit.specs.Turns.{any_played, any_turn, events_of_any}
+use Rattle.audit.specs.Turns.{any_turn, events_of_any}
 use Rattle.audit.specs.Harms.{harm_after}
 use Rattle.audit.specs.First.{Audit, audited, first_from, first_harm, found_or, up_to}
-use Rattle.audit.specs.Playing.{after_turn, audit_turn, audit_turns, led_to, unbegun, with_event}
-use Rattle.audit.proofs.Ending.{after_any_all-append, any_and_rest, any_turns-append}
+use Rattle.audit.specs.Playing.{after_turn, audit_turn, audit_turns, unbegun}
+use Rattle.audit.proofs.Ending.{after_any_all-append, any_and_rest}
 
 -- What is found, or else what is found later.
 abbrev pub or_then : Option Finding → Option Finding → Option Finding

@@ -1,8 +1,8 @@
 -- Runs of any tables: a board uses at most eight events for an access.
-use Rattle.std.proofs.Common.{◌≡◌, ℕ, zero, suc, ◌+◌, ◌*◌, ◌<◌, ◌≤◌, ◌%◌, Bool, true, false, cond, not, ◌&&◌, List, [], ◌∷◌, ◌++◌, Some, None, Option, length, ap, ap₂, refl, sym, subst, subst₂, ◌∙◌, inl, inr, ◌⊎◌, arith}
+use Rattle.std.proofs.Common.{◌≡◌, ℕ, suc, ◌+◌, ◌≤◌, ◌%◌, Bool, true, false, cond, not, ◌&&◌, List, [], ◌∷◌, ◌++◌, Some, None, Option, length, ap, ap₂, refl, sym, subst, subst₂, ◌∙◌, inl, inr, ◌⊎◌, arith}
 use Rattle.std.proofs.lemmas.Bool.{and_from, and_parts, both_ways, eq-eqb, eqb-false, eqb-true, le-leb, leb-true, not-true}
 use Rattle.std.specs.List.{AllByRecursion}
-use Rattle.std.specs.Prelude.{IsSome, IsTrue, filter_map, is_some, nat_le, slice_get, ◌==◌}
+use Rattle.std.specs.Prelude.{filter_map, is_some, nat_le, slice_get, ◌==◌}
 use Rattle.bus_signals.specs.declared.Access.{Access}
 use Rattle.moesi_state.specs.declared.State.{State}
 use Rattle.moesi_state.specs.declared.State.TheVariants.{I}
@@ -16,15 +16,15 @@ use Rattle.bus_model.specs.Board.{access_line, has_no_room, is_full, is_full_now
 use Rattle.bus_model.specs.Carrying.{done_of, master_words, reply_of, source_words, state_of_master, written}
 use Rattle.bus_model.specs.Connecting.{responses}
 use Rattle.bus_model.specs.Effects.{answered, asking, completed, copy_as, filled as fill_more, spent, without_grant}
-use Rattle.bus_model.specs.Soundness.{BoundSound, FitsCache, RequestSound, RowSound, ScriptSound, completes, stage, used, used_with}
+use Rattle.bus_model.specs.Soundness.{BoundSound, FitsCache, RequestSound, RowSound, ScriptSound, stage, used, used_with}
 use Rattle.bus_model.specs.Steps.{Can, CanData, ForAccess, ForVictim, after}
 use Rattle.bus_model.specs.Arbitration.{won_by}
 use Rattle.coherence.proofs.Competing.{competes_raised, won-fits}
-use Rattle.coherence.proofs.Bounds.{used_by_user, used_other, used_own}
+use Rattle.coherence.proofs.Bounds.{used_other, used_own}
 use Rattle.coherence.proofs.DataPhase.{place_then}
 use Rattle.coherence.proofs.Lists.{In, count-changed, count-falls, find-in, find-passes, in-all, in-filter_map, in-find}
-use Rattle.coherence.proofs.OtherBoards.{Unchanged, others_unchanged, present_unchanged, stage_of, stage_unchanged}
-use Rattle.coherence.proofs.Progress.{connected_course, kept-change, lowered, present_there, raised_there, user_of, without_grant-connected, without_grant-granted}
+use Rattle.coherence.proofs.OtherBoards.{others_unchanged, present_unchanged, stage_of, stage_unchanged}
+use Rattle.coherence.proofs.Progress.{connected_course, kept-change, lowered, present_there, raised_there, user_of}
 use Rattle.coherence.proofs.Puts.{put_copy-is, put_rows, put_rows-board, put_rows-changes}
 use Rattle.coherence.proofs.Requests.{connected_not_raised, granted_not_raised, requests_step}
 use Rattle.coherence.proofs.RowChanges.{KeepsPlaces, copy_kept, is_copy-parts, row_there, rows_of_board-copy}
@@ -38,7 +38,7 @@ use Rattle.audit.specs.Steps.{after_any, after_any_data, after_any_local, any_an
 use Rattle.audit.proofs.DataSteps.{answering_fits, connected_fits, data_facts, master_state-is}
 use Rattle.audit.proofs.Filling.{well_filled}
 use Rattle.audit.proofs.Keeping.{RowFacts, asking_facts, connect_facts, gone_facts, later_facts, raise_phase}
-use Rattle.audit.proofs.LocalSteps.{Dropped, gone, local_facts}
+use Rattle.audit.proofs.LocalSteps.{gone, local_facts}
 use Rattle.audit.proofs.Moved.{any_data-boards, any_data-is, any_row-keeps, any_row-master, any_rows}
 use Rattle.audit.proofs.Legal.{NotHeldBack}
 

@@ -1,7 +1,7 @@
 -- The cells of filled tables.
-use Rattle.std.proofs.Common.{◌≡◌, ℕ, ◌+◌, ◌*◌, ◌%◌, ◌<◌, ◌≤◌, Bool, true, false, cond, List, [], ◌∷◌, Some, None, Option, length, map, option_map, unwrap_or, refl, ap, sym, subst, ◌∙◌, arith, mod-lt}
+use Rattle.std.proofs.Common.{◌≡◌, ℕ, ◌%◌, ◌<◌, true, false, cond, List, [], ◌∷◌, Some, length, map, option_map, unwrap_or, refl, ap, sym, ◌∙◌, arith, mod-lt}
 use Rattle.std.proofs.lemmas.List.{length-map}
-use Rattle.std.specs.Prelude.{slice_get, slice_index_or, flat_map}
+use Rattle.std.specs.Prelude.{slice_get, slice_index_or}
 use Rattle.bus_signals.specs.declared.LocalEvent.{LocalEvent}
 use Rattle.bus_signals.specs.declared.BusEvent.{BusEvent}
 use Rattle.bus_signals.specs.declared.BusEvent.TheVariants.{Rd, Rfo, Inv, Urd, Bwr, Uwr, Ubw, Pas, Flu, Usw}
@@ -12,12 +12,9 @@ use Rattle.bus_signals.proofs.Events.{bus_listed, local_listed, bus_below, local
 use Rattle.moesi_state.specs.declared.State.{State}
 use Rattle.moesi_state.specs.declared.State.TheVariants.{M, O, E, S, I}
 use Rattle.moesi_state.specs.States.{all_states, state_number}
-use Rattle.class_relation.specs.declared.LocalAction.{LocalAction}
-use Rattle.class_relation.specs.declared.SnoopAction.{SnoopAction}
 use Rattle.class_relation.specs.Permitted.{is_empty}
-use Rattle.class_relation.specs.Tables.{Table, locals_of, answers_of, said_locals, said_answers, local_cell, answer_cell, no_table}
+use Rattle.class_relation.specs.Tables.{Table, locals_of, answers_of, said_locals, said_answers, no_table}
 use Rattle.class_relation.specs.Versions.{is_answer_said, is_local_said, swaps_of}
-use Rattle.bus_model.specs.Places.{at_place}
 use Rattle.bus_model.specs.Setup.{Setup, BoardSpec, WellFormed, table_of}
 use Rattle.bus_model.specs.Configuration.{Row, state_at}
 use Rattle.bus_model.specs.Board.{access_line, cell_of}

@@ -1,18 +1,17 @@
 -- The events of a run of any tables are charged to the accesses of the boards: at most eight to each.
-use Rattle.std.proofs.Common.{◌≡◌, ℕ, zero, suc, ◌+◌, ◌*◌, ◌<◌, ◌≤◌, Bool, true, false, cond, List, [], ◌∷◌, ◌++◌, Some, None, Option, length, length-take, map, take, unwrap_or, ap, refl, sym, subst, ◌∙◌, arith}
+use Rattle.std.proofs.Common.{◌≡◌, ℕ, zero, suc, ◌+◌, ◌*◌, ◌<◌, ◌≤◌, Bool, true, false, cond, List, [], ◌∷◌, ◌++◌, Some, None, Option, length, length-take, unwrap_or, ap, refl, sym, subst, ◌∙◌, arith}
 use Rattle.std.proofs.lemmas.Bool.{eq-eqb, eqb-true}
 use Rattle.std.proofs.lemmas.List.{length-map}
 use Rattle.std.proofs.lemmas.List.Recursion.{is_sum_by}
 use Rattle.std.proofs.lemmas.Option.{slice_get_within}
 use Rattle.std.specs.List.{AllByRecursion}
-use Rattle.std.specs.Prelude.{IsSome, is_some, slice_get, ◌==◌}
+use Rattle.std.specs.Prelude.{is_some, slice_get, ◌==◌}
 use Rattle.bus_signals.specs.declared.Access.{Access}
 use Rattle.bus_model.specs.Setup.{Setup, WellFormed, access_count, script_of}
 use Rattle.bus_model.specs.Events.{Connect, DataPhase, Done, Drop, Event, Grant, Local, Raise}
-use Rattle.bus_model.specs.Configuration.{Configuration, is_connected, is_granted, is_raised, opening, present_access}
+use Rattle.bus_model.specs.Configuration.{Configuration, is_connected, is_granted, is_raised, present_access}
 use Rattle.bus_model.specs.Board.{is_full_now}
 use Rattle.bus_model.specs.Entries.{Entry, entries, entries_of}
-use Rattle.bus_model.specs.Places.{count_where}
 use Rattle.bus_model.specs.Soundness.{completes, is_used_by, used}
 use Rattle.bus_model.specs.Steps.{Can, after}
 use Rattle.coherence.proofs.Competing.{competes_raised}

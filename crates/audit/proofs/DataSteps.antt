@@ -1,5 +1,5 @@
 -- A data phase of any tables keeps the rows in their caches.
-use Rattle.std.proofs.Common.{◌≡◌, ℕ, suc, ◌<◌, ◌≤◌, Bool, true, false, List, [], Some, None, Option, length, option_map, unwrap_or, ap, refl, sym, subst, subst₂, ◌∙◌, inl, inr, ◌⊎◌, arith}
+use Rattle.std.proofs.Common.{◌≡◌, ℕ, suc, ◌<◌, true, false, List, Some, None, Option, length, option_map, unwrap_or, ap, sym, subst, subst₂, ◌∙◌, inl, inr, arith}
 use Rattle.std.proofs.lemmas.Bool.{both_ways, false_from_ne_true}
 use Rattle.std.proofs.lemmas.Option.{same_Some}
 use Rattle.std.specs.List.{AllByRecursion}
@@ -16,7 +16,7 @@ use Rattle.class_relation.proofs.Spelling.{same_outcome-eq}
 use Rattle.table_check.specs.Reached.{Reached}
 use Rattle.table_check.proofs.Accepting.{reached_answer, reached_local}
 use Rattle.bus_model.specs.Setup.{Setup, WellFormed, line_count, shape_of, table_of}
-use Rattle.bus_model.specs.Events.{Answer, Carried, DataPhase, Done, Transaction}
+use Rattle.bus_model.specs.Events.{Answer, Carried, Done, Transaction}
 use Rattle.bus_model.specs.Configuration.{Configuration, Phase, Progress, Row, has_row, present_access, state_at}
 use Rattle.bus_model.specs.Board.{access_line, is_full}
 use Rattle.bus_model.specs.Carrying.{master_state, master_words, state_in, state_of_master}

@@ -1,16 +1,14 @@
 -- What is played of any tables: at most eight events an access, and in the end every script is at its end.
-use Rattle.std.proofs.Common.{◌≡◌, ℕ, zero, suc, ◌+◌, ◌*◌, ◌<◌, ◌≤◌, Bool, true, false, cond, List, [], ◌∷◌, ◌++◌, Some, None, Option, length, ap, refl, sym, subst, ◌∙◌, inl, inr, ◌⊎◌, arith, append-nil, append_assoc, length-append}
+use Rattle.std.proofs.Common.{◌≡◌, ℕ, zero, suc, ◌+◌, ◌*◌, ◌≤◌, Bool, true, false, cond, List, [], ◌∷◌, ◌++◌, Some, None, Option, length, ap, refl, sym, subst, ◌∙◌, inl, inr, ◌⊎◌, arith, append-nil, append_assoc, length-append}
 use Rattle.std.proofs.lemmas.Bool.{eq-eqb}
-use Rattle.std.specs.Prelude.{IsSome, is_some, ◌==◌}
-use Rattle.bus_signals.specs.declared.Access.{Access}
+use Rattle.std.specs.Prelude.{IsSome}
 use Rattle.moesi_state.specs.declared.State.{State}
 use Rattle.bus_model.specs.Places.{repeated}
 use Rattle.bus_model.specs.Setup.{Setup, WellFormed, access_count, board_places}
-use Rattle.bus_model.specs.Events.{Connect, DataPhase, Done, Drop, Event, Grant, Local, Raise}
+use Rattle.bus_model.specs.Events.{Connect, DataPhase, Drop, Event, Grant, Local, Raise}
 use Rattle.bus_model.specs.Configuration.{Configuration, Connected, Granted, Idle, Phase, is_connected, is_granted, is_held, opening, present_access}
 use Rattle.bus_model.specs.Board.{access_line}
 use Rattle.bus_model.specs.Carrying.{carried_of}
-use Rattle.bus_model.specs.Soundness.{RowsSound}
 use Rattle.bus_model.specs.Steps.{Can}
 use Rattle.bus_model.specs.Turns.{Did, Finished, LineHeld, Turn, Waits, bus_holder, turn}
 use Rattle.bus_model.specs.TurnParts.{turn_for}
@@ -25,9 +23,8 @@ use Rattle.audit.specs.Filled.{filled}
 use Rattle.audit.specs.Steps.{after_any, after_any_all, displaced}
 use Rattle.audit.specs.Turns.{any_played, any_turn, event_turn, events_of_any, guarded, unless_held}
 use Rattle.audit.proofs.Bounds.{Kept, kept_step}
-use Rattle.audit.proofs.Charges.{charged_step, few_events, fewer_events}
+use Rattle.audit.proofs.Charges.{charged_step, fewer_events}
 use Rattle.audit.proofs.Filling.{well_filled}
-use Rattle.audit.proofs.Keeping.{RowFacts}
 use Rattle.audit.proofs.Legal.{NotHeldBack, any_turn_can}
 
 -- ---- some board acts

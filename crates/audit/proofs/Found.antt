@@ -1,14 +1,14 @@
 -- What is found is the first event after which a reply is wrong or a line is not coherent.
-use Rattle.std.proofs.Common.{◌≡◌, ℕ, zero, suc, ◌+◌, ◌<◌, ◌≤◌, Bool, true, false, cond, not, ◌&&◌, List, [], ◌∷◌, ◌++◌, Some, None, Option, length, ap, refl, sym, subst, ◌∙◌, arith}
-use Rattle.std.proofs.lemmas.Bool.{and_parts, eqb-true, eq-eqb, leb-true, not-true}
+use Rattle.std.proofs.Common.{◌≡◌, ℕ, suc, ◌+◌, Bool, true, false, cond, not, ◌&&◌, List, [], ◌∷◌, ◌++◌, Some, None, Option, length, ap, refl, sym, subst, ◌∙◌, arith}
+use Rattle.std.proofs.lemmas.Bool.{and_parts, eqb-true, eq-eqb, leb-true}
 use Rattle.std.specs.List.{AllByRecursion, list_all}
-use Rattle.std.specs.Prelude.{IsTrue, nat_le, ◌==◌}
+use Rattle.std.specs.Prelude.{nat_le, ◌==◌}
 use Rattle.bus_model.specs.Setup.{Setup, line_count}
 use Rattle.bus_model.specs.Events.{Done, Event}
 use Rattle.bus_model.specs.Configuration.{Configuration, Row, memory_line, opening, rows_of_line}
 use Rattle.bus_model.specs.Board.{access_line}
 use Rattle.bus_model.specs.Coherence.{Coherent, LineCoherent, has_alone, owner_count}
-use Rattle.bus_model.specs.Entries.{Entry, entries, entries_after, entries_with, latest_line, owed_reply}
+use Rattle.bus_model.specs.Entries.{Entry, entries, entries_with, latest_line, owed_reply}
 use Rattle.coherence.proofs.Words.{entries_more}
 use Rattle.audit.specs.declared.finding.Harm.{Harm}
 use Rattle.audit.specs.declared.finding.Harm.TheVariants.{Reply, Owners, Shared, Words, Memory}

@@ -1,5 +1,5 @@
 -- Rounds of the auditor: one from which nothing comes leaves the audit as it is, and so do all later ones.
-use Rattle.std.proofs.Common.{◌≡◌, ℕ, zero, suc, ◌+◌, ◌<◌, ◌≤◌, List, [], ◌∷◌, ◌++◌, Some, None, Option, length, drop, drop-cons, get_or, ap, refl, sym, subst, ◌∙◌, inl, inr, ◌⊎◌, arith, length-append, add-one}
+use Rattle.std.proofs.Common.{◌≡◌, ℕ, zero, suc, ◌+◌, ◌<◌, ◌≤◌, List, [], ◌∷◌, Some, None, Option, length, drop, drop-cons, get_or, ap, refl, sym, ◌∙◌, inl, inr, ◌⊎◌, arith, length-append, add-one}
 use Rattle.bus_model.specs.Places.{places_from, repeated}
 use Rattle.bus_model.specs.Setup.{Setup}
 use Rattle.bus_model.specs.Turns.{Did, Finished, Turn, Waits}
@@ -8,7 +8,7 @@ use Rattle.bus_model.specs.Events.{Event}
 use Rattle.audit.specs.Parts.{event_in}
 use Rattle.audit.specs.Turns.{any_turn}
 use Rattle.audit.specs.First.{Audit}
-use Rattle.audit.specs.Playing.{after_turn, audit_turn, audit_turns, led_to, with_event}
+use Rattle.audit.specs.Playing.{after_turn, audit_turn, audit_turns, led_to}
 use Rattle.audit.proofs.Audits.{turns_joined}
 
 -- An audit is another one, or has more events.

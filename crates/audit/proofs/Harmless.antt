@@ -1,20 +1,20 @@
 -- An event harms no line that it does not touch, so where no line was harmed before it, the lowest harmed line is found
 -- among those that it touches.
-use Rattle.std.proofs.Common.{◌≡◌, ℕ, zero, suc, ◌+◌, ◌<◌, ◌≤◌, Bool, true, false, cond, List, [], ◌∷◌, ◌++◌, Some, None, Option, length, ap, ap₂, refl, sym, subst, ◌∙◌, inl, inr, ◌⊎◌, arith}
+use Rattle.std.proofs.Common.{◌≡◌, ℕ, zero, suc, ◌+◌, ◌<◌, ◌≤◌, Bool, true, false, cond, List, [], Some, None, Option, ap, refl, sym, subst, ◌∙◌, inl, inr, ◌⊎◌, arith}
 use Rattle.std.proofs.lemmas.Bool.{cases_lt, cases_eq, leb-false, leb-true, ne_eqb}
-use Rattle.std.specs.Prelude.{if◌then◌else◌, nat_le, ◌==◌}
+use Rattle.std.specs.Prelude.{nat_le}
 use Rattle.moesi_state.specs.declared.State.{State}
 use Rattle.moesi_state.specs.declared.State.TheVariants.{I}
-use Rattle.bus_model.specs.Setup.{Setup, WellFormed, line_count}
-use Rattle.bus_model.specs.Events.{Carried, Connect, DataPhase, Done, Drop, Event, Grant, Local, Raise}
-use Rattle.bus_model.specs.Configuration.{Configuration, Row, memory_line, no_words, present_access, rows_of_line, words_at}
+use Rattle.bus_model.specs.Setup.{Setup, line_count}
+use Rattle.bus_model.specs.Events.{Connect, DataPhase, Done, Drop, Event, Grant, Local, Raise}
+use Rattle.bus_model.specs.Configuration.{Configuration, memory_line, present_access, rows_of_line, words_at}
 use Rattle.bus_model.specs.Board.{access_line}
-use Rattle.bus_model.specs.Carrying.{done_of, master_words, source_words, state_of_master, written}
-use Rattle.bus_model.specs.Entries.{Entry, entries_with, latest_line, with_entry}
+use Rattle.bus_model.specs.Carrying.{master_words, source_words, state_of_master, written}
+use Rattle.bus_model.specs.Entries.{Entry, entries_with, latest_line}
 use Rattle.bus_model.specs.Steps.{Can}
 use Rattle.coherence.proofs.DataPhase.{done-other, memory-line_other}
 use Rattle.coherence.proofs.Progress.{done_by, entries-done, user_of}
-use Rattle.coherence.proofs.Puts.{put_copy-is, put_rows, put_rows-line}
+use Rattle.coherence.proofs.Puts.{put_copy-is, put_rows-line}
 use Rattle.coherence.proofs.RowChanges.{rows_of_line-copy}
 use Rattle.coherence.proofs.Words.{latest_line-with_entry, written_on}
 use Rattle.audit.specs.declared.finding.Harm.{Harm}

@@ -1,47 +1,31 @@
 -- Events of any tables keep the rows in their caches, and the transaction that is connected fits the rows.
-use Rattle.std.proofs.Common.{◌≡◌, ℕ, zero, suc, ◌+◌, ◌<◌, ◌≤◌, Bool, true, false, cond, not, ◌&&◌, List, [], ◌∷◌, ◌++◌, Some, None, Option, length, option_map, unwrap_or, ap, ap₂, refl, sym, subst, subst₂, ◌∙◌, inl, inr, ◌⊎◌, arith}
-use Rattle.std.proofs.lemmas.Bool.{and_from, both_ways, eq-eqb, eqb-false, false_from_ne_true, leb-false, ne_eqb, not_from_false}
-use Rattle.std.proofs.lemmas.Option.{same_Some}
-use Rattle.std.specs.List.{AllByRecursion}
-use Rattle.std.specs.Prelude.{IsFalse, IsTrue, filter_map, nat_le, slice_get, slice_index_or, ◌==◌}
+use Rattle.std.proofs.Common.{◌≡◌, ℕ, suc, Bool, true, false, not, ◌&&◌, List, [], Some, length, option_map, unwrap_or, ap, refl, sym, subst, ◌∙◌, arith}
+use Rattle.std.proofs.lemmas.Bool.{and_from, both_ways, eq-eqb, eqb-false, leb-false, not_from_false}
+use Rattle.std.specs.Prelude.{IsFalse, filter_map, nat_le, slice_get, slice_index_or, ◌==◌}
 use Rattle.bus_signals.specs.declared.Access.{Access}
-use Rattle.bus_signals.specs.Accesses.{kind_of}
 use Rattle.moesi_state.specs.declared.State.{State}
 use Rattle.moesi_state.specs.declared.State.TheVariants.{I}
-use Rattle.moesi_state.specs.declared.Outcome.{Outcome}
-use Rattle.moesi_state.specs.declared.Outcome.TheVariants.{Fixed}
 use Rattle.moesi_state.specs.States.{holds}
-use Rattle.moesi_state.specs.Outcomes.{is_invalid, settled}
-use Rattle.class_relation.specs.Actions.{silently}
 use Rattle.class_relation.specs.Tables.{Table, no_table}
-use Rattle.class_relation.proofs.Spelling.{same_outcome-eq, same_state-eq}
 use Rattle.table_check.specs.Reached.{Reached}
-use Rattle.table_check.proofs.Accepting.{reached_answer, reached_local}
 use Rattle.bus_model.specs.Places.{change_place, count_where}
-use Rattle.bus_model.specs.Setup.{BoardSpec, Cached, Plain, Setup, Shape, ShapeFits, WellFormed, line_count, script_of, shape_of, table_of}
-use Rattle.bus_model.specs.Events.{Answer, Carried, DataPhase, Done, Event, Local, Transaction}
-use Rattle.bus_model.specs.Configuration.{Arbitration, Configuration, Connected, Granted, Idle, Phase, Progress, Row, has_row, is_connected, is_held, present_access, progress_of, rows_of_line, state_at, words_at}
-use Rattle.bus_model.specs.Board.{access_line, has_no_room, is_full, is_in_set, victim}
-use Rattle.bus_model.specs.Carrying.{master_state, master_words, state_in, state_of_master, written}
-use Rattle.bus_model.specs.Connecting.{AnswersFit, other_holders, responses}
-use Rattle.bus_model.specs.Effects.{answered, asking, completed, copy_as, filled as fill_more, spent, without_grant}
+use Rattle.bus_model.specs.Setup.{BoardSpec, Cached, Plain, Setup, Shape, ShapeFits, WellFormed, script_of, shape_of, table_of}
+use Rattle.bus_model.specs.Events.{Transaction}
+use Rattle.bus_model.specs.Configuration.{Arbitration, Configuration, Connected, Granted, Idle, Phase, Progress, Row, has_row, is_connected, is_held, present_access, progress_of, rows_of_line}
+use Rattle.bus_model.specs.Board.{has_no_room, is_full, is_in_set}
+use Rattle.bus_model.specs.Connecting.{AnswersFit, other_holders}
+use Rattle.bus_model.specs.Effects.{answered, asking, copy_as, spent}
 use Rattle.bus_model.specs.Soundness.{ArbitrationFits, CountsWithin, PartsFit, RowsSound}
-use Rattle.bus_model.specs.Steps.{CanConnect, CanData, CanDrop, CanLocal, ForVictim, Purpose, is_quiet}
-use Rattle.coherence.proofs.Answers.{RowAnswered, counts-connected, rows_answered}
-use Rattle.coherence.proofs.Cells.{reached_at, spec_there}
-use Rattle.coherence.proofs.DataPhase.{done_boards, fills-done, length-done, length-memory, state_in-master, state_in-other}
-use Rattle.coherence.proofs.Lists.{In, all-weaker, filter-in, in-all}
+use Rattle.bus_model.specs.Steps.{CanConnect, Purpose}
+use Rattle.coherence.proofs.Answers.{counts-connected}
+use Rattle.coherence.proofs.Cells.{spec_there}
+use Rattle.coherence.proofs.Lists.{all-weaker}
 use Rattle.coherence.proofs.Places.{IsPlace, all-change_place, length-change_place}
-use Rattle.coherence.proofs.Progress.{board_there, connected_course, kept-answered, kept-change, length-answered, line_within, place_of, present_is, progress-other}
-use Rattle.coherence.proofs.Puts.{is_other, is_other-parts, length-put, other_rows, put_boards, put_copy-is, put_rows, put_rows-board, put_rows-line}
-use Rattle.coherence.proofs.RowChanges.{copy-unchanged, row_absent, rows_of_board-copy, rows_of_line-copy}
-use Rattle.coherence.proofs.RowsKept.{HasRoom, counts-more, row_sound, rows-changed, rows-copy, rows-later, rows-put, rows_held}
-use Rattle.coherence.proofs.Seen.{IsHeld, answers_fit-line, is_full-board, other_holders-line, purpose-same, rows_of_board, state_at-line}
-use Rattle.coherence.proofs.Victims.{full_has_victim, victim_is, victim_leaves_room}
+use Rattle.coherence.proofs.Progress.{connected_course, kept-answered, kept-change, length-answered, place_of}
+use Rattle.coherence.proofs.RowChanges.{row_absent, rows_of_board-copy, rows_of_line-copy}
+use Rattle.coherence.proofs.RowsKept.{HasRoom, counts-more, rows-copy, rows-later}
+use Rattle.coherence.proofs.Seen.{answers_fit-line, other_holders-line, purpose-same, rows_of_board}
 use Rattle.audit.specs.Filled.{filled}
-use Rattle.audit.specs.Steps.{any_memory_words, displaced, without_displaced}
-use Rattle.audit.proofs.Filling.{well_filled}
-use Rattle.audit.proofs.Moved.{AnyAnsweringIs, any_moved, any_placed_boards, any_placed_rows, any_row-is, any_row-keeps, any_row-master, any_rows}
 
 -- ---- what is kept
 

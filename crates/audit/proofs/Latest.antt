@@ -1,7 +1,7 @@
 -- The flat words are the latest after each event.
-use Rattle.std.proofs.Common.{◌≡◌, ℕ, List, [], ◌∷◌, ◌++◌, Option, Some, None, length, ap, refl, sym, subst, ◌∙◌}
+use Rattle.std.proofs.Common.{◌≡◌, ℕ, List, Option, Some, ap, refl, sym, subst, ◌∙◌}
 use Rattle.flat_memory.specs.Flats.{IsLatest, KeepsLatest}
-use Rattle.bus_model.specs.Entries.{Entry, entries_of, entries_with, with_entry}
+use Rattle.bus_model.specs.Entries.{Entry, entries_with, with_entry}
 use Rattle.bus_model.specs.Events.{Connect, DataPhase, Done, Drop, Event, Grant, Local, Raise}
 use Rattle.coherence.proofs.Progress.{user_of}
 use Rattle.audit.specs.Harms.{done_in}

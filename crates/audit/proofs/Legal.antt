@@ -1,6 +1,6 @@
 -- What a turn of any tables comes to is a step of the filled tables.
-use Rattle.std.proofs.Common.{◌≡◌, ℕ, Bool, true, false, cond, not, ◌&&◌, List, [], ◌∷◌, Some, None, Option, length, map, unwrap_or, ap, refl, sym, subst, ◌∙◌, inl, inr, ◌⊎◌, ◌<◌, arith}
-use Rattle.std.proofs.lemmas.Bool.{and_parts, eq-eqb, eqb-true, not-true}
+use Rattle.std.proofs.Common.{◌≡◌, ℕ, Bool, true, false, cond, not, ◌&&◌, List, [], ◌∷◌, Some, None, Option, length, map, unwrap_or, ap, refl, sym, subst, ◌∙◌, inl, inr, arith}
+use Rattle.std.proofs.lemmas.Bool.{eq-eqb, eqb-true}
 use Rattle.std.specs.List.{AllByRecursion}
 use Rattle.std.specs.Prelude.{IsTrue, is_some, ◌==◌}
 use Rattle.bus_signals.specs.declared.Access.{Access}
@@ -10,14 +10,14 @@ use Rattle.bus_signals.specs.Accesses.{kind_of}
 use Rattle.moesi_state.specs.declared.State.{State}
 use Rattle.moesi_state.specs.declared.State.TheVariants.{I}
 use Rattle.moesi_state.specs.declared.Outcome.{Outcome}
-use Rattle.moesi_state.specs.declared.Outcome.TheVariants.{Fixed, OnHit}
+use Rattle.moesi_state.specs.declared.Outcome.TheVariants.{Fixed}
 use Rattle.moesi_state.specs.States.{holds, owns}
 use Rattle.moesi_state.specs.Outcomes.{is_invalid, settled}
 use Rattle.class_relation.specs.declared.LocalAction.{LocalAction}
 use Rattle.class_relation.specs.Actions.{answer, has_answer, has_local, silently}
 use Rattle.class_relation.specs.Permitted.{is_empty}
 use Rattle.class_relation.specs.Tables.{locals_of, answers_of}
-use Rattle.bus_model.specs.Setup.{Setup, WellFormed, board_places, choose_of, line_count, number_of, table_of}
+use Rattle.bus_model.specs.Setup.{Setup, WellFormed, board_places, choose_of, number_of, table_of}
 use Rattle.bus_model.specs.Places.{places_from}
 use Rattle.bus_model.specs.Settling.{highest}
 use Rattle.bus_model.specs.Arbitration.{competing, competing_numbers, does_compete, winner_of}
@@ -33,13 +33,12 @@ use Rattle.bus_model.specs.TurnParts.{access_turn, action_turn, bus_turn, local_
 use Rattle.bus_model.proofs.TurnInParts.{in_parts}
 use Rattle.coherence.proofs.Cells.{has_answer-in, has_local-in, pick-in}
 use Rattle.coherence.proofs.Competing.{some_is_competing}
-use Rattle.coherence.proofs.Lists.{In, all-in, any-in, filter-in, find-in, in-filter, in-find, map-in}
+use Rattle.coherence.proofs.Lists.{In, all-in, any-in, find-in, in-filter, in-find, map-in}
 use Rattle.coherence.proofs.Turns.{highest-in}
 use Rattle.coherence.proofs.Places.{IsPlace, in-places}
-use Rattle.coherence.proofs.Progress.{board_there, line_within}
-use Rattle.coherence.proofs.RowsKept.{row_sound}
-use Rattle.coherence.proofs.Victims.{full_has_victim, victim_is, victim_state}
-use Rattle.audit.specs.Filled.{fallback_local, filled, filled_cell, filled_locals, outcome_by, settled_alone}
+use Rattle.coherence.proofs.Progress.{board_there}
+use Rattle.coherence.proofs.Victims.{full_has_victim, victim_state}
+use Rattle.audit.specs.Filled.{fallback_local, filled, filled_cell, outcome_by, settled_alone}
 use Rattle.audit.specs.Steps.{displaced}
 use Rattle.audit.specs.Turns.{any_turn, event_turn, guarded, unless_held}
 use Rattle.audit.proofs.Cells.{answers_some, cell_filled, locals_some, table_filled}

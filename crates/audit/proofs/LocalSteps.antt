@@ -1,6 +1,6 @@
 -- An access without the bus, of any tables, keeps the rows in their caches.
-use Rattle.std.proofs.Common.{◌≡◌, ℕ, suc, ◌<◌, ◌≤◌, Bool, true, false, cond, not, ◌&&◌, List, [], ◌∷◌, Some, None, Option, length, ap, ap₂, refl, sym, subst, subst₂, ◌∙◌, arith}
-use Rattle.std.proofs.lemmas.Bool.{and_from, both_ways, eq-eqb, eqb-false, eqb-true, false_from_ne_true, ne_eqb, not-true, and_parts, not_from_false}
+use Rattle.std.proofs.Common.{◌≡◌, ℕ, suc, ◌≤◌, Bool, true, false, cond, not, List, [], Some, None, Option, length, ap, ap₂, refl, sym, subst, ◌∙◌, arith}
+use Rattle.std.proofs.lemmas.Bool.{and_from, both_ways, eqb-false, false_from_ne_true, ne_eqb, not-true, and_parts, not_from_false}
 use Rattle.std.specs.List.{AllByRecursion}
 use Rattle.std.specs.Prelude.{IsFalse, IsTrue, filter_map, slice_get, ◌==◌}
 use Rattle.bus_signals.specs.declared.Access.{Access}
@@ -13,27 +13,27 @@ use Rattle.class_relation.proofs.Spelling.{same_state-eq}
 use Rattle.table_check.specs.Reached.{Reached}
 use Rattle.table_check.proofs.Accepting.{reached_local}
 use Rattle.bus_model.specs.Places.{change_place}
-use Rattle.bus_model.specs.Setup.{Cached, Plain, Setup, Shape, WellFormed, line_count, script_of, shape_of, table_of}
-use Rattle.bus_model.specs.Events.{Done, Event, Local, Transaction}
+use Rattle.bus_model.specs.Setup.{Cached, Plain, Setup, Shape, WellFormed, script_of, shape_of, table_of}
+use Rattle.bus_model.specs.Events.{Done, Local}
 use Rattle.bus_model.specs.Configuration.{Configuration, Connected, Granted, Idle, Phase, Progress, Row, has_row, is_connected, is_held, present_access, progress_of, rows_of_line, state_at, words_at}
 use Rattle.bus_model.specs.Board.{access_line, has_no_room, is_full, victim}
 use Rattle.bus_model.specs.Carrying.{written}
-use Rattle.bus_model.specs.Effects.{asking, completed, copy_as, filled as fill_more, put_copy, spent, with_row, without_grant}
-use Rattle.bus_model.specs.Soundness.{CountsWithin, PartsFit, RowsSound}
-use Rattle.bus_model.specs.Steps.{CanLocal, after_local, is_quiet}
+use Rattle.bus_model.specs.Effects.{asking, completed, copy_as, filled as fill_more, spent, with_row, without_grant}
+use Rattle.bus_model.specs.Soundness.{CountsWithin, RowsSound}
+use Rattle.bus_model.specs.Steps.{CanLocal, is_quiet}
 use Rattle.coherence.proofs.Cells.{reached_at}
 use Rattle.coherence.proofs.Lists.{all-weaker}
 use Rattle.coherence.proofs.Places.{IsPlace, all-change_place, length-change_place}
-use Rattle.coherence.proofs.Progress.{board_there, kept-change, line_within, place_of, progress-other}
+use Rattle.coherence.proofs.Progress.{board_there, kept-change, line_within, progress-other}
 use Rattle.coherence.proofs.Puts.{length-put, put_boards, put_boards-course, put_copy-is, put_rows, put_rows-board, put_rows-line}
 use Rattle.coherence.proofs.RowChanges.{copy-unchanged, new_row, row_absent, rows_of_board-copy, rows_of_line-copy}
-use Rattle.coherence.proofs.RowsKept.{HasRoom, counts-more, rows-later, rows-put, rows_held}
-use Rattle.coherence.proofs.Seen.{IsHeld, row_at-line, row_words, rows_of_board, state_at-line}
+use Rattle.coherence.proofs.RowsKept.{rows-later, rows-put, rows_held}
+use Rattle.coherence.proofs.Seen.{rows_of_board, state_at-line}
 use Rattle.coherence.proofs.Victims.{full_has_victim, victim_is, victim_leaves_room, victim_state}
 use Rattle.audit.specs.Filled.{filled}
 use Rattle.audit.specs.Steps.{after_any_local, displaced, without_displaced}
 use Rattle.audit.proofs.Filling.{well_filled}
-use Rattle.audit.proofs.Keeping.{PhaseFits, RowFacts, TransactionFits, gone_facts, room_for, transaction-kept}
+use Rattle.audit.proofs.Keeping.{PhaseFits, RowFacts, gone_facts, room_for, transaction-kept}
 use Rattle.audit.proofs.Legal.{NotHeldBack}
 
 -- ---- the displaced row

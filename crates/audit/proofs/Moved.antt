@@ -1,23 +1,22 @@
 -- The configuration after an event of any tables, field by field, beside that of accepted tables: boards and phase are
 -- the same, and so are the rows but for their words.
-use Rattle.std.proofs.Common.{◌≡◌, ℕ, Bool, true, false, cond, List, [], Some, None, Option, length, ap, ap₂, refl, sym, subst, ◌∙◌, inl, inr, ◌⊎◌, not, ◌&&◌}
+use Rattle.std.proofs.Common.{◌≡◌, ℕ, Bool, true, false, cond, List, Some, None, Option, ap, refl, sym, ◌∙◌, inl, inr, ◌⊎◌}
 use Rattle.std.proofs.lemmas.Bool.{and_left, and_right, eq-eqb, ne_eqb, not_from_true}
 use Rattle.std.proofs.lemmas.Option.{same_Some}
 use Rattle.std.specs.Prelude.{filter_map, slice_set, is_some, ◌==◌}
 use Rattle.moesi_state.specs.declared.State.{State}
 use Rattle.moesi_state.specs.States.{holds}
-use Rattle.bus_model.specs.Setup.{Setup}
-use Rattle.bus_model.specs.Events.{Event, Local, Drop, Raise, Grant, Connect, DataPhase, Done, Carried}
+use Rattle.bus_model.specs.Events.{Done, Carried}
 use Rattle.bus_model.specs.Configuration.{Configuration, Row, Progress, Idle, is_of_line, has_row, rows_of_line}
-use Rattle.bus_model.specs.Carrying.{answering_row, master_words, row_if, state_in, state_of_master}
+use Rattle.bus_model.specs.Carrying.{master_words, row_if, state_in, state_of_master}
 use Rattle.bus_model.specs.Effects.{change_rows, complete, filled, in_phase, put_copy, put_memory}
 use Rattle.bus_model.specs.Places.{change_place}
 use Rattle.bus_model.specs.Steps.{after, after_data, complete_if}
-use Rattle.coherence.proofs.DataPhase.{after_data-is, answering-master, answering_rows, done_boards, placed_boards}
+use Rattle.coherence.proofs.DataPhase.{after_data-is, answering-master, answering_rows, done_boards}
 use Rattle.coherence.proofs.Puts.{is_other, put_boards, put_copy-is, put_rows}
 use Rattle.coherence.proofs.RowChanges.{KeepsPlaces, SamePlace, row_as-is, rows_of_board-untouched, rows_of_line-untouched, same_place-same, same_place-with_copy, with_copy}
 use Rattle.coherence.proofs.Seen.{row_at-board, rows_of_board}
-use Rattle.audit.specs.Steps.{any_answering_row, any_memory_words, any_taken_words, after_any, after_any_data}
+use Rattle.audit.specs.Steps.{any_answering_row, any_memory_words, any_taken_words, after_any_data}
 
 -- ---- the rows of a data phase
 

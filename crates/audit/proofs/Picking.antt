@@ -1,5 +1,5 @@
 -- What a board of a filled setup picks is a pick of its own cell, which may be empty.
-use Rattle.std.proofs.Common.{◌≡◌, ℕ, ◌%◌, ◌<◌, false, List, length, map, ap, sym, ◌∙◌, mod-lt}
+use Rattle.std.proofs.Common.{◌≡◌, ℕ, ◌%◌, false, List, length, map, ap, sym, ◌∙◌, mod-lt}
 use Rattle.std.specs.Prelude.{slice_index_or}
 use Rattle.bus_signals.specs.declared.Access.{Access}
 use Rattle.bus_signals.specs.declared.BusEvent.{BusEvent}
@@ -14,7 +14,7 @@ use Rattle.bus_model.specs.Configuration.{Configuration, progress_of, state_at}
 use Rattle.bus_model.specs.Board.{access_line}
 use Rattle.bus_model.specs.Turns.{decide, decide_answer, draw}
 use Rattle.coherence.proofs.Places.{IsPlace}
-use Rattle.audit.specs.Filled.{fallback_local, fallback_answer, filled_cell, filled_locals, filled, settled_alone}
+use Rattle.audit.specs.Filled.{fallback_local, fallback_answer, filled_cell, filled, settled_alone}
 use Rattle.audit.proofs.Indexes.{index-default}
 use Rattle.audit.proofs.Cells.{answers_cell_filled, cell_filled, filled_long, pick-mapped}
 

@@ -1,5 +1,5 @@
 -- Rows in lists: the oldest, the place of a new one, and rows that are changed or go.
-use Rattle.std.proofs.Common.{◌≡◌, ℕ, zero, suc, ◌+◌, ◌≤◌, ◌<◌, Bool, true, false, cond, not, List, [], ◌∷◌, ◌++◌, Option, Some, None, length, map, take, drop, get_or, unwrap_or, refl, ap, sym, ◌∙◌, arith, add-one, drop-cons, append-nil}
+use Rattle.std.proofs.Common.{◌≡◌, ℕ, suc, ◌+◌, ◌≤◌, ◌<◌, Bool, true, false, cond, not, List, [], ◌∷◌, ◌++◌, Option, Some, None, length, map, take, drop, get_or, unwrap_or, refl, ap, sym, ◌∙◌, arith, add-one, drop-cons, append-nil}
 use Rattle.std.specs.Prelude.{filter, filter_map, insert, is_some, nat_le, if◌then◌else◌}
 use Rattle.std.specs.List.{cons_option}
 use Rattle.std.proofs.lemmas.Bool.{leb-true, leb-false, le-leb, lt-leb}
@@ -10,7 +10,7 @@ use Rattle.moesi_state.specs.declared.State.{State}
 use Rattle.moesi_state.specs.States.{holds}
 use Rattle.bus_model.specs.Configuration.{Row, is_copy}
 use Rattle.bus_model.specs.Board.{older, oldest}
-use Rattle.bus_model.specs.Effects.{copy_as, is_before, row_as, with_row}
+use Rattle.bus_model.specs.Effects.{copy_as, is_before, with_row}
 use Rattle.audit.specs.Rows.{older_of, copy_with, place_for}
 
 -- ---- the oldest row

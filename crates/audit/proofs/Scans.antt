@@ -1,6 +1,6 @@
 -- Scans of a list from its front.
-use Rattle.std.proofs.Common.{◌≡◌, ℕ, ◌+◌, ◌<◌, ◌≤◌, zero, suc, Bool, true, false, cond, List, [], ◌∷◌, ◌++◌, length, get_or, set, take, drop, map, refl, ap, sym, ◌∙◌, arith, add-one, drop-cons, Some, None, Option}
-use Rattle.std.specs.Prelude.{find, filter, filter_map, nat_le, is_some, insert}
+use Rattle.std.proofs.Common.{◌≡◌, ℕ, ◌+◌, ◌<◌, Bool, true, false, cond, List, ◌++◌, length, get_or, set, take, drop, map, refl, arith, add-one, drop-cons, Some}
+use Rattle.std.specs.Prelude.{find}
 use Rattle.std.proofs.lemmas.List.Edits.{map_over_more}
 use Rattle.std.proofs.lemmas.List.{length-append, length-map, length-take, length-drop, get_or_default}
 use Rattle.bus_model.specs.Places.{count_where}

@@ -1,5 +1,5 @@
 -- A turn of any tables by its parts, as the auditor's code plans it.
-use Rattle.std.proofs.Common.{◌≡◌, ℕ, None, Some, Option, ap, refl, ◌∙◌}
+use Rattle.std.proofs.Common.{◌≡◌, ℕ, None, Some, ap, ◌∙◌}
 use Rattle.bus_signals.specs.declared.Access.{Access}
 use Rattle.bus_model.specs.Setup.{Setup}
 use Rattle.bus_model.specs.Events.{DataPhase, Transaction}

@@ -1,18 +1,15 @@
 -- The state of the auditor from event to event.
-use Rattle.std.proofs.Common.{◌≡◌, ℕ, zero, suc, ◌+◌, ◌*◌, ◌/◌, ◌<◌, ◌≤◌, ◌^◌, Bool, true, false, cond, List, [], ◌∷◌, ◌++◌, Some, None, Option, length, ap, refl, sym, subst, subst₂, ◌∙◌, inl, inr, ◌⊎◌, arith, append-nil, length-append, unwrap_or}
+use Rattle.std.proofs.Common.{◌≡◌, ℕ, zero, suc, ◌+◌, ◌*◌, ◌<◌, ◌≤◌, ◌^◌, Bool, true, false, List, [], ◌∷◌, ◌++◌, Some, None, Option, length, ap, refl, sym, subst, ◌∙◌, arith, unwrap_or}
 use Rattle.std.proofs.lemmas.List.Recursion.{is_sum_by}
-use Rattle.std.specs.List.{AllByRecursion}
 use Rattle.std.specs.Prelude.{slice_get, ◌==◌, if◌then◌else◌}
 use Rattle.bus_signals.specs.Accesses.{address_of}
 use Rattle.bus_signals.specs.declared.Access.{Access}
-use Rattle.bus_model.specs.Places.{at_place, repeated}
-use Rattle.bus_model.specs.Setup.{Setup, WellFormed, access_count, board_places, line_count, script_of}
-use Rattle.bus_model.specs.Events.{Connect, DataPhase, Done, Drop, Event, Grant, Local, Raise}
-use Rattle.bus_model.specs.Configuration.{Configuration, Progress, fresh, memory_line, opening, present_access, progress_of, rows_of_line}
+use Rattle.bus_model.specs.Setup.{Setup, WellFormed, access_count, line_count, script_of}
+use Rattle.bus_model.specs.Events.{Connect, DataPhase, Drop, Event, Grant, Local, Raise}
+use Rattle.bus_model.specs.Configuration.{Configuration, Progress, fresh, memory_line, opening, present_access, rows_of_line}
 use Rattle.bus_model.specs.Entries.{Entry, entries, entries_after, entries_with, latest_line}
 use Rattle.bus_model.specs.Soundness.{CountsWithin}
 use Rattle.bus_model.specs.Steps.{Can}
-use Rattle.bus_model.specs.Turns.{Did, Finished, Turn, Waits}
 use Rattle.coherence.proofs.Lists.{all-weaker}
 use Rattle.coherence.proofs.Opening.{sound_opening}
 use Rattle.coherence.proofs.Places.{all-from_places}
@@ -23,8 +20,7 @@ use Rattle.audit.specs.declared.finding.Harm.{Harm}
 use Rattle.audit.specs.declared.finding.Finding.{Finding}
 use Rattle.audit.specs.Filled.{filled}
 use Rattle.audit.specs.Steps.{after_any, after_any_all}
-use Rattle.audit.specs.Turns.{any_turn, events_of_any}
-use Rattle.audit.specs.Harms.{done_in, first_of_harms, harm_after, harm_at, lines_harm, lowest, reply_harm}
+use Rattle.audit.specs.Harms.{done_in, first_of_harms, harm_after, harm_at, lines_harm, reply_harm}
 use Rattle.audit.specs.Touched.{harm_within, lowest_touched, touched}
 use Rattle.audit.specs.First.{first_from, first_harm, found_or}
 use Rattle.audit.specs.Parts.{CountsAreLow, DoneWithin}
@@ -32,9 +28,8 @@ use Rattle.audit.specs.Auditor.{StandsFor}
 use Rattle.audit.proofs.Agreement.{coherent_harmless}
 use Rattle.audit.proofs.Audits.{first-append, or_then}
 use Rattle.audit.proofs.Charges.{few_events, place_within}
-use Rattle.audit.proofs.Ending.{Watched, any_and_rest, any_turns-append, turns_watched, watched_opening}
+use Rattle.audit.proofs.Ending.{Watched, turns_watched, watched_opening}
 use Rattle.audit.proofs.Harmless.{NoHarm, lowest-no_harm, touched_harm}
-use Rattle.audit.proofs.Legal.{any_turn_can}
 
 -- ---- no harm so far
 

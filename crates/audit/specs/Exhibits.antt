@@ -1,6 +1,6 @@
 -- The exhibits: small setups of two boards. One cell of the first board's table is not as it ought
 -- to be, and it does harm.
-use Rattle.std.specs.Prelude.{ℕ, ◌-◌, ◌==◌, ◌&&◌, true, false, List, [], ◌∷◌, ◌++◌, Option, Some, None, map, flat_map, filter, replicate, slice_index_or, if◌then◌else◌, codes}
+use Rattle.std.specs.Prelude.{ℕ, ◌-◌, ◌==◌, ◌&&◌, true, false, List, [], ◌∷◌, Option, Some, None, map, flat_map, filter, replicate, slice_index_or, if◌then◌else◌, codes}
 use Rattle.std.specs.Option.{option_to_list}
 use Rattle.bus_signals.specs.declared.Access.{Access}
 use Rattle.bus_signals.specs.declared.LocalEvent.{LocalEvent}

@@ -1,6 +1,6 @@
 -- The first harm of a run of any tables.
 use Rattle.std.specs.Prelude.{◌≡◌, ℕ, suc, ◌*◌, ◌≤◌, List, [], ◌∷◌, Option, Some, None, take, length}
-use Rattle.bus_model.specs.Setup.{Setup, board_places, access_count}
+use Rattle.bus_model.specs.Setup.{Setup, access_count}
 use Rattle.bus_model.specs.Events.{Event}
 use Rattle.bus_model.specs.Configuration.{Configuration, opening, present_access}
 use Rattle.bus_model.specs.Entries.{Entry, entries_with}

@@ -1,7 +1,6 @@
 -- The parts of the auditor's machine, and the configuration that they show.
-use Rattle.std.specs.Prelude.{◌≡◌, ℕ, ◌^◌, ◌<◌, List, Option, Some, None, length}
+use Rattle.std.specs.Prelude.{ℕ, ◌^◌, ◌<◌, List, Option, Some, None}
 use Rattle.std.specs.List.{AllByRecursion}
-use Rattle.bus_model.specs.Setup.{Setup}
 use Rattle.bus_signals.specs.Accesses.{address_of}
 use Rattle.bus_model.specs.Events.{Event, Done}
 use Rattle.bus_model.specs.Configuration.{Configuration, Progress}

@@ -1,5 +1,5 @@
 -- Rows as the auditor's code goes over them.
-use Rattle.std.specs.Prelude.{ℕ, zero, suc, nat_le, List, [], ◌∷◌, Option, Some, None, unwrap_or, if◌then◌else◌}
+use Rattle.std.specs.Prelude.{ℕ, suc, nat_le, List, [], ◌∷◌, Option, Some, None, unwrap_or, if◌then◌else◌}
 use Rattle.moesi_state.specs.declared.State.{State}
 use Rattle.bus_model.specs.Configuration.{Row, is_copy}
 use Rattle.bus_model.specs.Effects.{is_before}

@@ -1,5 +1,5 @@
 -- The boards of a setup, as the auditor reads them.
-use Rattle.std.specs.Prelude.{ℕ, ◌≤◌}
+use Rattle.std.specs.Prelude.{◌≤◌}
 use Rattle.bus_model.specs.Setup.{Shape, Plain, Cached}
 
 -- A cache has sets and ways.

@@ -5,8 +5,8 @@ use Rattle.std.specs.List.{AllByRecursion}
 use Rattle.trace_text.specs.Ranges.{InRange}
 use Rattle.bus_model.specs.Places.{repeated}
 use Rattle.bus_model.specs.Setup.{Setup, WellFormed, access_count, board_places}
-use Rattle.bus_model.specs.Events.{Event, Transaction}
-use Rattle.bus_model.specs.Configuration.{Configuration, Connected, opening}
+use Rattle.bus_model.specs.Events.{Event}
+use Rattle.bus_model.specs.Configuration.{Configuration, opening}
 use Rattle.bus_model.specs.Turns.{Did, Finished, Turn, Waits}
 use Rattle.run_text.specs.RunLines.{IsTyped}
 use Rattle.run_text.proofs.Spelled.{IsServed, step_is}

@@ -12,7 +12,6 @@ use Rattle.bus_signals.specs.declared.LocalEvent.{LocalEvent}
 use Rattle.bus_signals.specs.declared.LocalEvent.TheVariants as events
 use Rattle.class_words.specs.Words.{local_event_word, local_event_of}
 use Rattle.class_words.proofs.WordLaws.{local_event_is, local_event_again}
-use Rattle.class_relation.specs.Names.{is_name}
 use Rattle.class_relation.specs.Tables.{empty_table}
 use Rattle.setup.specs.Setup.{Setup, access_count}
 use Rattle.table_text.specs.Reading.{◌>>=◌}

@@ -10,7 +10,6 @@ use Rattle.fb_text.proofs.LineItems.{from, item_at}
 use Rattle.fb_text.proofs.LineLaws.{IsClosing, BeginsLine, HasNext, NoLine, FreeFront, FaultBehind, stops_in_line, unfit_fault, judged_fault}
 use Rattle.class_relation.specs.Names.{is_name}
 use Rattle.class_relation.specs.Tables.{Table}
-use Rattle.table_text.specs.declared.fault.TableKind.{TableKind}
 use Rattle.table_text.specs.declared.fault.TableKind.TheVariants as table_kinds
 use Rattle.table_text.specs.Reading.{◌>>=◌, version_number, version_at}
 use Rattle.table_text.specs.Reading as TableReading

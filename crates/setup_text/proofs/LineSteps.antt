@@ -15,7 +15,7 @@ use Rattle.setup_text.specs.declared.fault.SetupFault.TheVariants as faults
 use Rattle.setup_text.specs.declared.fault.SetupKind.{SetupKind}
 use Rattle.setup_text.specs.declared.fault.SetupKind.TheVariants.{UnknownWord, NoEnd}
 use Rattle.setup_text.specs.Drafts.{with_table}
-use Rattle.setup_text.specs.Reading.{Mode, start, body, in_table, ended, BookMode, Fault, Gives, Fails, FailsAs, Answers, GoesOn, on_line, then_lines, this_word, head_name, head_line, with_version, line_ends, table_head, book_head, whole_table, as_setup_fault, first_line, body_line, line_at, lines_at, text_ends, book_line, book_lines, book_ends, place_in, places_on, schedule_lines, as_setup_kind, after_table_line, after_book_line, mode_after}
+use Rattle.setup_text.specs.Reading.{Mode, start, body, in_table, ended, BookMode, Fault, Gives, Fails, FailsAs, Answers, GoesOn, on_line, then_lines, this_word, head_name, head_line, with_version, table_head, book_head, whole_table, as_setup_fault, first_line, body_line, line_at, lines_at, text_ends, book_line, book_lines, book_ends, place_in, places_on, schedule_lines, as_setup_kind, after_table_line, after_book_line, mode_after}
 use Rattle.setup_text.proofs.TableLines.{through_lines}
 
 abbrev at : ℕ → Words → List Line → ℕ → Unread

@@ -1,6 +1,6 @@
 -- Reading a text of one table.
 use Rattle.std.specs.Prelude.{List, [], ◌∷◌, Result, Ok, Err, codes}
-use Rattle.fb_text.specs.Unread.{Unread, Line, at_next_line, has_line}
+use Rattle.fb_text.specs.Unread.{Unread, Line, at_next_line}
 use Rattle.class_relation.specs.Tables.{Table}
 use Rattle.setup_text.specs.declared.fault.SetupKind.TheVariants.{UnknownWord, NoEnd}
 use Rattle.table_text.specs.Reading.{◌>>=◌}

@@ -28,7 +28,7 @@ use Rattle.table_library.specs.Fitting.{stays_in, fits_local, fits_answer, is_go
 use Rattle.table_library.specs.Kept.{has_good_set, kept}
 use Rattle.table_library.specs.Narrow.{fitting_part, narrowed}
 use Rattle.table_library.specs.Greatest.{IsPart, HasNeeds, NarrowedIsLargest}
-use Rattle.table_library.proofs.Passing.{both, one_of, either_left, either_right, any_to, any_contained}
+use Rattle.table_library.proofs.Passing.{both, one_of, either_left, either_right, any_contained}
 use Rattle.table_library.proofs.Sets.{in_filtered, in_order, is_state_set}
 use Rattle.table_library.proofs.Serving.{Within, local_fits_more, answer_fits_more, test_from_good}
 use Rattle.table_library.proofs.Keeping.{in_kept, kept_from}

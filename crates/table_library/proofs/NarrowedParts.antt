@@ -1,7 +1,6 @@
 -- A narrowed table is in the class.
 use Rattle.std.proofs.Common.{◌≡◌, ℕ, Bool, true, false, ◌&&◌, ◌⊎◌, inl, inr, List, [], ◌∷◌, Some, None, filter, sym, ap, ◌∙◌, subst}
 use Rattle.std.specs.Prelude.{IsTrue, All, if◌then◌else◌}
-use Rattle.std.specs.List.{list_any}
 use Rattle.std.proofs.lemmas.List.Elements.{All-weaker, filter_passes}
 use Rattle.bus_signals.specs.declared.BusEvent.{BusEvent}
 use Rattle.bus_signals.specs.declared.LocalEvent.{LocalEvent}

@@ -1,15 +1,13 @@
 -- A table is in the class where the cells that it says itself are right.
-use Rattle.std.proofs.Common.{◌≡◌, ◌≢◌, Bool, true, false, List, [], ◌∷◌, refl, sym, ap, subst, ◌∙◌}
+use Rattle.std.proofs.Common.{◌≡◌, Bool, true, false, List, [], ◌∷◌, refl, sym, ap, subst, ◌∙◌}
 use Rattle.std.specs.Prelude.{IsTrue, All}
 use Rattle.std.proofs.lemmas.List.Elements.{All-weaker, All-from_recursion, recursion_from_All}
 use Rattle.bus_signals.specs.declared.BusEvent.{BusEvent}
 use Rattle.bus_signals.specs.declared.BusEvent.TheVariants.{Uwr, Usw}
 use Rattle.bus_signals.specs.declared.LocalEvent.{LocalEvent}
 use Rattle.moesi_state.specs.declared.State.{State}
-use Rattle.moesi_state.specs.States.{holds}
 use Rattle.class_relation.specs.declared.Cell.{Cell}
 use Rattle.class_relation.specs.declared.LocalAction.{LocalAction}
-use Rattle.class_relation.specs.declared.SnoopAction.{SnoopAction}
 use Rattle.class_relation.specs.Permitted.{is_permitted_local, is_permitted_answer, does_come}
 use Rattle.class_relation.specs.Versions.{is_local_said, is_answer_said, swaps_of}
 use Rattle.class_relation.specs.Tables.{Table, said_locals, said_answers, locals_of, answers_of}

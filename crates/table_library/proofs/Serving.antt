@@ -1,5 +1,5 @@
 -- What fits a set fits a larger one, and what is good, cell by cell.
-use Rattle.std.proofs.Common.{◌≡◌, Bool, true, ◌&&◌, List}
+use Rattle.std.proofs.Common.{◌≡◌, true, ◌&&◌, List}
 use Rattle.std.specs.List.{list_all}
 use Rattle.bus_signals.specs.declared.BusEvent.{BusEvent}
 use Rattle.bus_signals.specs.declared.LocalEvent.{LocalEvent}

@@ -6,7 +6,7 @@ use Rattle.std.specs.List.{AllByRecursion}
 use Rattle.class_relation.specs.Versions.{is_bus_said}
 use Rattle.std.proofs.lemmas.List.{append-nil}
 use Rattle.fb_text.specs.Unread.{Unread, Line}
-use Rattle.fb_text.specs.Places.{line_items, lines_items, Words, Item, line_end, text_end, items, lines_places, places}
+use Rattle.fb_text.specs.Places.{line_items, lines_items, Words, Item, text_end, items, lines_places, places}
 use Rattle.moesi_state.specs.declared.State.{State}
 use Rattle.moesi_state.specs.declared.State.TheVariants.{M, O, E, S, I}
 use Rattle.bus_signals.specs.declared.BusEvent.{BusEvent}

@@ -8,7 +8,7 @@ use Rattle.std.proofs.lemmas.List.{append-nil, get_or-set_same, length-set, set-
 use Rattle.fb_text.specs.Lines.{is_empty}
 use Rattle.fb_text.proofs.LineItems.{items_line, lines_push}
 use Rattle.fb_text.specs.Unread.{Unread, Line}
-use Rattle.fb_text.specs.Places.{line_items, lines_items, Words, Item, Place, line_end, items, line_places, lines_places}
+use Rattle.fb_text.specs.Places.{line_items, lines_items, Words, Item, Place, items, line_places, lines_places}
 use Rattle.moesi_state.specs.declared.State.{State}
 use Rattle.moesi_state.specs.declared.State.TheVariants.{M, O, E, S, I}
 use Rattle.bus_signals.specs.declared.LocalEvent.{LocalEvent}
@@ -16,8 +16,7 @@ use Rattle.bus_signals.specs.declared.BusEvent.{BusEvent}
 use Rattle.class_relation.specs.declared.LocalAction.{LocalAction}
 use Rattle.class_relation.specs.declared.SnoopAction.{SnoopAction}
 use Rattle.moesi_state.specs.States.{state_number}
-use Rattle.class_relation.specs.Tables.{local_number, local_cell, answer_cell, local_cell_count, answer_cell_count}
-use Rattle.bus_signals.specs.Signals.{event_number}
+use Rattle.class_relation.specs.Tables.{local_cell, answer_cell, local_cell_count, answer_cell_count}
 use Rattle.class_relation.specs.Tables.{Table, empty_table, said_locals, said_answers, with_local, with_answer}
 use Rattle.table_text.specs.declared.fault.TableKind.{TableKind}
 use Rattle.table_text.specs.declared.fault.TableKind.TheVariants.{UnknownWord, Number, TwiceCell, NoCell, Alternatives}

@@ -1,5 +1,4 @@
 use Rattle.std.proofs.Common.{ap, cond, false, map, sym, ◌∙◌}
-use Rattle.bus_model.specs.Arbitration.{does_any_wait}
 use Rattle.audit.proofs.arbitration.clear.Goals as goal
 
 pub returns-then-not-does_any_wait : goal.returns-then-not-does_any_wait

@@ -1,4 +1,4 @@
-use Rattle.std.proofs.Common.{ap, arith, sym, List, ◌∙◌, ◌≡◌}
+use Rattle.std.proofs.Common.{ap, arith, ◌∙◌, ◌≡◌}
 use Rattle.std.specs.Prelude.{insert}
 use Rattle.audit.specs.Rows.{place_for}
 use Rattle.audit.proofs.RowLists.{insert-place, place-within}

@@ -1,5 +1,5 @@
-use Rattle.std.proofs.Common.{◌≡◌, ◌^◌, ◌∙◌, ap, sym, subst, List}
-use Rattle.bus_model.specs.Configuration.{Configuration, Progress}
+use Rattle.std.proofs.Common.{◌≡◌, ◌^◌, ◌∙◌, ap, sym, subst}
+use Rattle.bus_model.specs.Configuration.{Configuration}
 use Rattle.bus_model.specs.Effects.{put_copy}
 use Rattle.audit.specs.Parts.{PlacesBelow, shown}
 use Rattle.audit.specs.Steps.{any_memory_words}

@@ -2,7 +2,6 @@ use Rattle.std.proofs.Common.{◌≡◌, ◌+◌, ◌^◌, ◌∙◌, ap, arith,
 use Rattle.bus_model.specs.Places.{change_place}
 use Rattle.bus_model.specs.Events.{Answer}
 use Rattle.bus_model.specs.Effects.{spent}
-use Rattle.audit.specs.Parts.{SpentBelow}
 use Rattle.audit.proofs.Spending.{answered-more, spent-next, spent-weaker}
 use Rattle.audit.proofs.effects.spend_all.Goals as goal
 

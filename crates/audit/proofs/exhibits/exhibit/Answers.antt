@@ -1,4 +1,4 @@
-use Rattle.std.proofs.Common.{rules, ◌≡◌, ◌∷◌, [], codes, replicate, ap, sym, ◌∙◌, ◌++◌}
+use Rattle.std.proofs.Common.{rules, ◌≡◌, ◌∷◌, [], codes, replicate}
 use Rattle.table_library.specs.Protocols.{protocol_table}
 use Rattle.class_relation.specs.Rows.{rows}
 use Rattle.audit.specs.Exhibits.{changed, other_table}

@@ -1,4 +1,4 @@
-use Rattle.std.proofs.Common.{arith, ap, length, sym, ◌+◌, ◌∙◌}
+use Rattle.std.proofs.Common.{arith, ap, length, ◌+◌, ◌∙◌}
 use Rattle.bus_model.specs.Arbitration.{does_compete}
 use Rattle.audit.specs.Parts.{arbitration_of}
 use Rattle.audit.proofs.Granting.{competing-more, numbers-all}

@@ -1,4 +1,4 @@
-use Rattle.std.proofs.Common.{ap, length, subst, sym, List, Option, ℕ, ◌∙◌}
+use Rattle.std.proofs.Common.{ap, length, subst, sym, List, ℕ, ◌∙◌}
 use Rattle.flat_memory.specs.Flats.{IsLatest}
 use Rattle.bus_model.specs.Entries.{entries_with}
 use Rattle.audit.specs.Harms.{first_of_harms, harm_at, reply_harm}

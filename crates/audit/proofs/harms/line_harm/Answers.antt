@@ -1,4 +1,4 @@
-use Rattle.std.proofs.Common.{arith, inl, inr, sym, ◌∙◌, ◌≡◌}
+use Rattle.std.proofs.Common.{inl, inr, sym, ◌∙◌}
 use Rattle.audit.proofs.Seeing.{IsNotShared, MemoryIsLatest, harmless, memory_harm, owners_harm, shared_harm, words_harm}
 use Rattle.audit.proofs.harms.line_harm.Goals as goal
 use Rattle.audit.proofs.harms.line_harm.Goals.{else-seen-via-then-seen+else-seen-gt1-2, else-seen-via-else-seen, else-seen-eq0-via-then-seen-eq0+else-differ, else-seen-eq0-via-else-seen-eq0}

@@ -1,6 +1,3 @@
-use Rattle.std.proofs.Common.{◌≡◌, ap, subst, sym, refl, List, ℕ, Some, length, ◌<◌}
-use Rattle.flat_memory.specs.Flats.{IsLatest, KeepsLatest}
-use Rattle.bus_model.specs.Entries.{Entry, with_entry}
 use Rattle.audit.proofs.Latest.{latest_after}
 use Rattle.audit.proofs.harms.reply_harm.Goals as goal
 

@@ -1,7 +1,6 @@
 use Rattle.std.proofs.Common.{◌≡◌, ℕ, ◌%◌, length, ap, ap₂, ◌∙◌}
 use Rattle.std.specs.Prelude.{slice_index_or}
-use Rattle.bus_signals.specs.Accesses.{kind_of, line_of}
-use Rattle.moesi_state.specs.declared.State.{State}
+use Rattle.bus_signals.specs.Accesses.{line_of}
 use Rattle.class_relation.specs.declared.LocalAction.{LocalAction}
 use Rattle.class_relation.specs.Tables.{locals_of}
 use Rattle.bus_model.specs.Configuration.{state_at}

@@ -1,4 +1,4 @@
-use Rattle.std.proofs.Common.{◌≡◌, ◌∙◌, ◌∷◌, ◌++◌, [], ℕ, List, codes, decimal, ap, arith}
+use Rattle.std.proofs.Common.{◌≡◌, ◌∙◌, ◌∷◌, ◌++◌, ℕ, List, codes, decimal, ap, arith}
 use Rattle.table_library.proofs.TrafficLines.{six_pieces, board_pieces}
 use Rattle.table_library.proofs.lines.board_line.Goals as goal
 

@@ -1,4 +1,4 @@
-use Rattle.std.proofs.Common.{◌≡◌, ℕ, List, [], ◌∷◌, Bool, false, cond, get_or, sym, ap, subst, ◌∙◌}
+use Rattle.std.proofs.Common.{◌≡◌, ℕ, List, [], ◌∷◌, false, cond, get_or, sym, subst}
 use Rattle.std.specs.Prelude.{IsTrue}
 use Rattle.moesi_state.specs.declared.State.TheVariants.{M}
 use Rattle.class_relation.specs.declared.SnoopAction.{SnoopAction}
