@@ -13,7 +13,13 @@ returns-clause-frame c =
     let count : c.len.result ≡ length sets.items = let e = c.len.ensures in omega arith in
     c.frame.ensures
     ∙ placed-frame c.self.inside.spec.shape _ sets.items c.len.result c.args.line c.index.result.now
-    (record { shape_fits = i.shape; many = i.many; kept = i.kept; count = count; is = rw (← c.place.ensures) c.index.ensures })
+    (record {
+      shape_fits = i.shape;
+      many = i.many;
+      kept = i.kept;
+      count = count;
+      is = rw (← c.place.ensures) c.index.ensures;
+    })
     ∙ ap (λ (s : Station). frame_at s.frames c.args.line) c.self.view_is
 
 pub returns-clause-held : goal.returns-clause-held
@@ -24,5 +30,11 @@ returns-clause-held c =
     let count : c.len.result ≡ length sets.items = let e = c.len.ensures in omega arith in
     rw (c.frame.ensures
     ∙ placed-frame c.self.inside.spec.shape _ sets.items c.len.result c.args.line c.index.result.now
-    (record { shape_fits = i.shape; many = i.many; kept = i.kept; count = count; is = rw (← c.place.ensures) c.index.ensures }))
+    (record {
+      shape_fits = i.shape;
+      many = i.many;
+      kept = i.kept;
+      count = count;
+      is = rw (← c.place.ensures) c.index.ensures;
+    }))
     (found-held _ c.args.line i.held)

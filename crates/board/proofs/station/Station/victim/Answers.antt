@@ -15,7 +15,13 @@ returns-then-ways-len-clause-victim c =
     let here : IsPlaced (Cached c.in-Cached.sets c.in-Cached.ways) fs sets.items c.len.result c.args.line
     c.index-set.result.now =
     rw (← c.in-Cached.is)
-    (record { shape_fits = i.shape; many = i.many; kept = i.kept; count = count; is = rw (← c.place.ensures) c.index-set.ensures }) in
+    (record {
+      shape_fits = i.shape;
+      many = i.many;
+      kept = i.kept;
+      count = count;
+      is = rw (← c.place.ensures) c.index-set.ensures;
+    }) in
     rw (← c.self.view_is, c.in-Cached.is)
     (c.oldest.ensures
     ∙ victim-there c.in-Cached.sets c.in-Cached.ways fs sets.items c.len.result c.args.line c.index-set.result.now
@@ -33,7 +39,13 @@ returns-else-is_none-clause-victim c =
     let here : IsPlaced (Cached c.in-Cached.sets c.in-Cached.ways) fs sets.items c.len.result c.args.line
     c.index-set.result.now =
     rw (← c.in-Cached.is)
-    (record { shape_fits = i.shape; many = i.many; kept = i.kept; count = count; is = rw (← c.place.ensures) c.index-set.ensures }) in
+    (record {
+      shape_fits = i.shape;
+      many = i.many;
+      kept = i.kept;
+      count = count;
+      is = rw (← c.place.ensures) c.index-set.ensures;
+    }) in
     rw (← c.self.view_is, c.in-Cached.is)
     (elim c.else-is_none.branch [
       | else-is_none-via-then-is_none+else-ways-len w ↦
