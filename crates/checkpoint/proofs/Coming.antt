@@ -1,6 +1,6 @@
 -- What lines do to what the reader of a checkpoint comes to.
-use Rattle.std.proofs.Common.{◌≡◌, ℕ, ◌+◌, ◌-◌, ◌<◌, ◌≤◌, Bool, true, false, cond, List, [], ◌∷◌, ◌++◌, Option, Some, None, Result, Ok, Err, length, drop, take, refl, sym, ap, ◌∙◌, arith, append-nil, append_assoc, length-append, length-drop}
-use Rattle.std.specs.Prelude.{codes, decimal, nat_le, if◌then◌else◌, ◌^◌}
+use Rattle.std.proofs.Common.{◌≡◌, ℕ, ◌+◌, ◌<◌, ◌≤◌, Bool, true, false, cond, List, [], ◌∷◌, ◌++◌, Option, Some, None, Ok, Err, length, drop, take, refl, sym, ap, ◌∙◌, arith, append-nil, append_assoc, length-append, length-drop}
+use Rattle.std.specs.Prelude.{codes, decimal, nat_le}
 use Rattle.std.specs.Str.{bytes_eq}
 use Rattle.std.specs.Result.{result_ok}
 use Rattle.std.specs.Option.{is_some}
@@ -18,11 +18,10 @@ use Rattle.replayer.specs.Lines.{event_in, is_end_word}
 use Rattle.replayer.specs.Reader.{LacksFeed}
 use Rattle.replayer.specs.Replaying.{step}
 use Rattle.replayer.proofs.Long.{long_no_end, long_no_event}
-use Rattle.checkpoint.specs.declared.fault.RestoreFault.{RestoreFault}
-use Rattle.checkpoint.specs.declared.fault.RestoreFault.TheVariants.{Spelling, NotARun, Differs}
+use Rattle.checkpoint.specs.declared.fault.RestoreFault.TheVariants.{Spelling, Differs}
 use Rattle.checkpoint.specs.StateText.{state_lines}
-use Rattle.checkpoint.specs.Restoring.{by_event, by_step, compared, gone_on, is_line, is_turns, lines_after, most_turns, told_turns, turns_in}
-use Rattle.checkpoint.specs.Restore.{Part, Place, at_state, closed, comes_to, events, fault_of, lines_come_to, over, reading, state, turns}
+use Rattle.checkpoint.specs.Restoring.{by_event, by_step, compared, gone_on, is_line, is_turns, lines_after, most_turns, turns_in}
+use Rattle.checkpoint.specs.Restore.{Part, at_state, closed, comes_to, events, fault_of, lines_come_to, over, reading, state, turns}
 
 -- ---- the lines of a text
 

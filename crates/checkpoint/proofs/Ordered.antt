@@ -1,22 +1,22 @@
 -- The rows of each configuration of a run are in order of board and then of fill number.
-use Rattle.std.proofs.Common.{◌≡◌, ℕ, suc, ◌<◌, ◌≤◌, Bool, true, false, cond, List, [], ◌∷◌, ◌++◌, Option, Some, None, refl, sym, ap, ◌∙◌, subst, arith, inl, inr, ◌⊎◌}
-use Rattle.std.specs.Prelude.{filter, filter_map, ◌==◌, if◌then◌else◌}
+use Rattle.std.proofs.Common.{◌≡◌, ℕ, ◌<◌, Bool, true, false, cond, List, [], ◌∷◌, Option, Some, None, refl, sym, ap, subst, arith, inl, inr, ◌⊎◌}
+use Rattle.std.specs.Prelude.{filter_map, if◌then◌else◌}
 use Rattle.std.specs.List.{AllByRecursion}
 use Rattle.std.proofs.lemmas.Bool.Decides.{nat_tests}
 use Rattle.moesi_state.specs.declared.State.{State}
 use Rattle.moesi_state.specs.States.{holds}
 use Rattle.bus_model.specs.Setup.{Setup, WellFormed, AllInClass}
-use Rattle.bus_model.specs.Events.{Event, Local, Drop, Raise, Grant, Connect, DataPhase, Carried}
-use Rattle.bus_model.specs.Configuration.{Configuration, Progress, Row, has_row, is_copy, opening, progress_of}
+use Rattle.bus_model.specs.Events.{Event, Local, Drop, Raise, Grant, Connect, DataPhase}
+use Rattle.bus_model.specs.Configuration.{Configuration, Progress, Row, has_row, is_copy, progress_of}
 use Rattle.bus_model.specs.Effects.{copy_as, is_before, with_row}
 use Rattle.bus_model.specs.Carrying.{answering_row, master_words, state_of_master, written}
 use Rattle.bus_model.specs.Configuration.{words_at}
 use Rattle.bus_model.specs.Board.{access_line}
 use Rattle.bus_model.specs.Runs.{Run}
 use Rattle.bus_model.specs.Soundness.{PairsByRecursion, RowSound, Sound}
-use Rattle.bus_model.specs.Steps.{Can, after}
+use Rattle.bus_model.specs.Steps.{after}
 use Rattle.coherence.proofs.DataPhase.{after_data-is, answering_row-keeps, answering_rows}
-use Rattle.coherence.proofs.Lists.{all-in, all-weaker}
+use Rattle.coherence.proofs.Lists.{all-weaker}
 use Rattle.coherence.proofs.Puts.{put_copy-is, put_rows}
 use Rattle.coherence.proofs.RowChanges.{KeepsPlaces, all-with_row, copy_as-keeps, new_row, same_place-same}
 use Rattle.coherence.proofs.RowsKept.{pairs-changed}

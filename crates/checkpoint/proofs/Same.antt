@@ -1,5 +1,5 @@
 -- Two configurations of one setup are equal where their state texts are.
-use Rattle.std.proofs.Common.{◌≡◌, ◌≢◌, ℕ, zero, suc, ◌+◌, ◌<◌, ◌≤◌, ◌^◌, Bool, true, false, List, [], ◌∷◌, ◌++◌, map, drop, length, get_or, Option, Some, None, refl, sym, ap, ◌∙◌, subst, arith, append-nil, append_assoc, inl, inr, ◌⊎◌}
+use Rattle.std.proofs.Common.{◌≡◌, ℕ, zero, suc, ◌+◌, ◌<◌, ◌≤◌, Bool, true, false, List, [], ◌∷◌, ◌++◌, map, drop, length, get_or, Some, refl, sym, ap, ◌∙◌, subst, arith, append-nil, append_assoc, inl, inr, ◌⊎◌}
 use Rattle.std.specs.Prelude.{codes, decimal, unwrap_or, slice_get, slice_index_or}
 use Rattle.std.specs.List.{flat_map, AllByRecursion}
 use Rattle.std.specs.Char.{digit_value}
@@ -10,7 +10,7 @@ use Rattle.std.proofs.lemmas.List.{append_cancel_left, map-append}
 use Rattle.std.proofs.lemmas.Str.{digit_value_digit}
 use Rattle.std.proofs.lemmas.Str.Parse.{digit_from_value}
 use Rattle.fb_text.specs.Places.{Words}
-use Rattle.fb_text.specs.Written.{AreLines, is_word, lines_bytes}
+use Rattle.fb_text.specs.Written.{lines_bytes}
 use Rattle.moesi_state.specs.declared.State.{State}
 use Rattle.class_words.specs.Words.{state_of, state_word}
 use Rattle.class_words.proofs.WordLaws.{state_again}
@@ -19,11 +19,10 @@ use Rattle.trace_text.specs.Spelling.{line_of_event, text_of_event}
 use Rattle.trace_text.proofs.Lines.{first_is}
 use Rattle.bus_model.specs.Setup.{Setup, WellFormed}
 use Rattle.bus_model.specs.Events.{Connect, Event, Transaction}
-use Rattle.bus_model.specs.Configuration.{Arbitration, ByNumber, Fair, Configuration, Phase, Idle, Granted, Connected, Progress, Row, fresh, is_served, memory_line, no_words, progress_of}
-use Rattle.bus_model.specs.Places.{at_place, places_from}
-use Rattle.bus_model.specs.Soundness.{ArbitrationFits, PartsFit}
+use Rattle.bus_model.specs.Configuration.{Arbitration, ByNumber, Fair, Configuration, Phase, Idle, Granted, Connected, Progress, Row, fresh, no_words, progress_of}
+use Rattle.bus_model.specs.Places.{places_from}
+use Rattle.bus_model.specs.Soundness.{ArbitrationFits}
 use Rattle.backplane.specs.Served.{was_served}
-use Rattle.replayer.specs.Lines.{event_in}
 use Rattle.replayer.specs.Reader.{LacksFeed}
 use Rattle.replayer.proofs.Feeds.{lacks_before}
 use Rattle.replayer.proofs.Meanings.{event_spelled}

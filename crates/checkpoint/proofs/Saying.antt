@@ -2,7 +2,6 @@
 use Rattle.std.proofs.Common.{◌≡◌, ◌⊎◌, ℕ, ◌+◌, Bool, true, false, cond, List, [], ◌∷◌, ◌++◌, map, Option, Some, None, Result, Ok, Err, inl, inr, refl, sym, ap, ◌∙◌, subst, append-nil, append_assoc}
 use Rattle.std.specs.Prelude.{codes}
 use Rattle.std.specs.List.{AllByRecursion}
-use Rattle.std.specs.Str.{bytes_eq}
 use Rattle.std.proofs.lemmas.Slice.Eq.{bytes_eq-Decides}
 use Rattle.trace_text.specs.Ranges.{InRange}
 use Rattle.trace_text.specs.Spelling.{text_of_event}
@@ -10,9 +9,9 @@ use Rattle.trace_text.proofs.Binds.{is_word}
 use Rattle.bus_model.specs.Setup.{Setup}
 use Rattle.bus_model.specs.Events.{Event}
 use Rattle.bus_model.specs.Configuration.{Configuration, opening}
-use Rattle.bus_model.specs.Runs.{Leads, Run, after_all}
-use Rattle.bus_model.specs.Steps.{Can, after}
-use Rattle.backplane.specs.Machine.{Machine, MayHappen, configuration, configuration_after, happened, opened}
+use Rattle.bus_model.specs.Runs.{Leads, after_all}
+use Rattle.bus_model.specs.Steps.{after}
+use Rattle.backplane.specs.Machine.{Machine, MayHappen, configuration, happened, opened}
 use Rattle.coherence.proofs.Decided.{decided}
 use Rattle.replayer.specs.Lines.{event_in, is_end_word}
 use Rattle.replayer.specs.Replaying.{step}
@@ -23,7 +22,7 @@ use Rattle.checkpoint.specs.declared.fault.RestoreFault.{RestoreFault}
 use Rattle.checkpoint.specs.declared.fault.RestoreFault.TheVariants.{Spelling, NotARun, Differs}
 use Rattle.checkpoint.specs.StateText.{state_lines}
 use Rattle.checkpoint.specs.Checkpoints.{Accepts, AreCheckpoint, Says, event_texts}
-use Rattle.checkpoint.specs.Restoring.{by_event, by_step, compared, gone_on, is_line, is_turns, restored, told_turns}
+use Rattle.checkpoint.specs.Restoring.{by_event, by_step, compared, gone_on, is_line, is_turns, told_turns}
 
 ok_same : (a b : Machine) → ◌≡◌ {A = Result Machine RestoreFault} (Ok a) (Ok b) → a ≡ b
 ok_same a b e = cc

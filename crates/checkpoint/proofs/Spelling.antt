@@ -1,5 +1,5 @@
 -- The transaction that is connected is spelled.
-use Rattle.std.proofs.Common.{◌≡◌, ℕ, ◌+◌, ◌≤◌, List, [], ◌∷◌, ◌++◌, length, refl, subst, arith}
+use Rattle.std.proofs.Common.{◌≡◌, ◌≤◌, List, length, refl, subst, arith}
 use Rattle.journal.specs.Boards.{answer_boards}
 use Rattle.journal.specs.Rising.{IsRising}
 use Rattle.trace_text.specs.Ranges.{InRange}

@@ -1,6 +1,5 @@
 -- What a line does to the reader of a checkpoint.
-use Rattle.std.proofs.Common.{◌≡◌, ◌≢◌, ℕ, suc, ◌+◌, ◌^◌, ◌<◌, ◌≤◌, Bool, true, false, cond, List, [], ◌∷◌, ◌++◌, Option, Some, None, Ok, Err, length, refl, sym, ap, ◌∙◌, subst, arith, length-append}
-use Rattle.std.specs.Str.{bytes_eq}
+use Rattle.std.proofs.Common.{◌≡◌, ◌≢◌, ℕ, ◌+◌, ◌^◌, ◌<◌, ◌≤◌, Bool, true, false, cond, List, [], ◌∷◌, ◌++◌, Option, Some, None, Ok, Err, length, refl, sym, ap, ◌∙◌, subst, arith, length-append}
 use Rattle.std.proofs.lemmas.Bool.{false_from_ne_true}
 use Rattle.std.proofs.lemmas.Slice.Eq.{bytes_eq-Decides}
 use Rattle.trace_text.proofs.Binds.{is_word}
@@ -14,7 +13,7 @@ use Rattle.checkpoint.specs.declared.item.Step.{Step}
 use Rattle.checkpoint.specs.declared.mark.Mark.{Mark}
 use Rattle.checkpoint.specs.Marks.{IsFirst, first_line, has_line, item_line, lines_left}
 use Rattle.checkpoint.specs.Restoring.{by_step, is_line}
-use Rattle.checkpoint.specs.Restore.{IsReading, Place, after_line, at_event, at_state, closed, comes_to, events, lines_come_to, over, reading, refused, state, turns}
+use Rattle.checkpoint.specs.Restore.{IsReading, after_line, at_event, at_state, closed, comes_to, events, lines_come_to, over, reading, refused, state, turns}
 use Rattle.checkpoint.specs.declared.reading.Stage.{Stage}
 use Rattle.checkpoint.specs.Stages.{place_at, state_place}
 use Rattle.replayer.specs.Reader.{LacksFeed}

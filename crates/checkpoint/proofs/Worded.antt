@@ -23,7 +23,7 @@ use Rattle.bus_model.specs.Places.{places_from}
 use Rattle.backplane.specs.Served.{was_served}
 use Rattle.run_text.specs.Lines.{numbers_below}
 use Rattle.checkpoint.specs.SameText.{BoardNumbers, IsNumber, IsOfSetup, RowNumbers}
-use Rattle.checkpoint.specs.StateText.{board_line, board_lines, end_line, from_boards, mark_word, memory_lines, row_line, row_lines}
+use Rattle.checkpoint.specs.StateText.{board_lines, end_line, from_boards, mark_word}
 
 -- ---- words
 

@@ -1,5 +1,5 @@
 -- The lines of a state text that are left at a mark.
-use Rattle.std.specs.Prelude.{◌≡◌, ℕ, zero, suc, ◌<◌, Bool, true, false, ◌&&◌, ◌||◌, ◌==◌, nat_lt, List, [], ◌∷◌, Option, Some, None, drop, filter, length, ◌≤◌, option_map, if◌then◌else◌}
+use Rattle.std.specs.Prelude.{◌≡◌, ℕ, zero, suc, Bool, true, false, ◌&&◌, ◌||◌, ◌==◌, nat_lt, List, [], ◌∷◌, Option, Some, None, drop, filter, length, ◌≤◌, option_map, if◌then◌else◌}
 use Rattle.trace_text.specs.Ranges.{InRange}
 use Rattle.bus_model.specs.Events.{Connect}
 use Rattle.bus_model.specs.Configuration.{Configuration, Connected, Row, row_at}
@@ -7,7 +7,7 @@ use Rattle.checkpoint.specs.declared.mark.Mark.{Mark}
 use Rattle.checkpoint.specs.declared.item.Item.{Item}
 use Rattle.checkpoint.specs.declared.item.Filled.{Filled}
 use Rattle.checkpoint.specs.declared.item.Step.{Step}
-use Rattle.checkpoint.specs.StateText.{board_lines, end_line, from_boards, from_memory, from_rows, memory_lines, phase_line, state_lines}
+use Rattle.checkpoint.specs.StateText.{board_lines, from_boards, from_memory, from_rows, memory_lines, phase_line, state_lines}
 
 -- Whether a fill number comes after another one, if there is another one.
 abbrev pub is_after : Option ℕ → ℕ → Bool

@@ -1,5 +1,5 @@
 -- When two configurations have the same state text.
-use Rattle.std.specs.Prelude.{◌≡◌, ◌↔◌, ℕ, ◌<◌, ◌^◌, List}
+use Rattle.std.specs.Prelude.{◌≡◌, ◌↔◌, ℕ, ◌<◌, ◌^◌}
 use Rattle.std.specs.List.{AllByRecursion}
 use Rattle.trace_text.specs.Ranges.{InRange}
 use Rattle.bus_model.specs.Setup.{Setup, WellFormed}

@@ -1,13 +1,9 @@
 -- What the reader of a checkpoint stands for.
-use Rattle.std.specs.Prelude.{◌≡◌, ℕ, ◌+◌, ◌^◌, ◌≤◌, List, [], ◌∷◌, length, Option, Some, None, Ok, Err}
-use Rattle.bus_model.specs.Events.{Event}
+use Rattle.std.specs.Prelude.{◌≡◌, ℕ, ◌+◌, ◌^◌, ◌≤◌, List, [], ◌∷◌, length, Ok, Err}
 use Rattle.backplane.specs.Machine.{Machine, configuration}
-use Rattle.replayer.specs.Lines.{event_in}
 use Rattle.checkpoint.specs.declared.reading.Reading.{Reading}
 use Rattle.checkpoint.specs.declared.reading.Stage.{Stage}
-use Rattle.checkpoint.specs.declared.mark.Mark.{Mark}
 use Rattle.checkpoint.specs.Marks.{lines_left}
-use Rattle.checkpoint.specs.Restoring.{by_event}
 use Rattle.checkpoint.specs.Restore.{Place, events, over, reading, state, turns}
 
 -- Where the lines of a configuration are read of which these are left.

@@ -1,4 +1,4 @@
-use Rattle.std.proofs.Common.{◌+◌, ◌∙◌, ◌∷◌, Some, ap, sym, ℕ, List}
+use Rattle.std.proofs.Common.{◌∙◌, ◌∷◌, Some, ap, sym, ℕ, List}
 use Rattle.backplane.specs.Machine.{configuration}
 use Rattle.checkpoint.specs.declared.mark.Mark.{Mark}
 use Rattle.checkpoint.specs.Marks.{lines_left}

@@ -1,6 +1,6 @@
-use Rattle.std.proofs.Common.{◌∙◌, [], ap, subst, sym}
+use Rattle.std.proofs.Common.{◌∙◌, [], ap, sym}
 use Rattle.checkpoint.specs.declared.reading.Stage.{Stage}
-use Rattle.checkpoint.specs.Restore.{IsReading, Place, comes_to, events, refused, turns}
+use Rattle.checkpoint.specs.Restore.{Place, comes_to, events, refused, turns}
 use Rattle.checkpoint.specs.Stages.{place_at}
 use Rattle.checkpoint.proofs.Coming.{long_comes}
 use Rattle.checkpoint.proofs.stage.refuse_long.Goals as goal

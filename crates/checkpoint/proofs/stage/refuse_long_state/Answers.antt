@@ -1,9 +1,7 @@
-use Rattle.std.proofs.Common.{◌≡◌, ◌∙◌, [], ap, subst, sym}
+use Rattle.std.proofs.Common.{◌∙◌, [], ap, sym}
 use Rattle.checkpoint.specs.declared.reading.Stage.{Stage}
-use Rattle.checkpoint.specs.Marks.{lines_left}
-use Rattle.backplane.specs.Machine.{configuration}
-use Rattle.checkpoint.specs.Restore.{IsReading, Place, comes_to, refused}
-use Rattle.checkpoint.specs.Stages.{place_at, state_place}
+use Rattle.checkpoint.specs.Restore.{Place, comes_to, refused}
+use Rattle.checkpoint.specs.Stages.{place_at}
 use Rattle.checkpoint.proofs.Taking.{long_state}
 use Rattle.checkpoint.proofs.stage.refuse_long_state.Goals as goal
 

@@ -1,4 +1,4 @@
-use Rattle.std.proofs.Common.{◌≡◌, ◌∙◌, [], ap, append-nil, subst, sym, ℕ, List}
+use Rattle.std.proofs.Common.{◌∙◌, [], ap, append-nil, subst, sym, ℕ, List}
 use Rattle.backplane.specs.Machine.{opened}
 use Rattle.checkpoint.specs.Checkpoints.{Accepts, Says}
 use Rattle.checkpoint.specs.Restoring.{closed_lines, restored}

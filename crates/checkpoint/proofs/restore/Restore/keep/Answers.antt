@@ -1,4 +1,4 @@
-use Rattle.std.proofs.Common.{◌≡◌, ◌∙◌, ◌++◌, ◌<◌, [], ap, length, sym, ℕ, List}
+use Rattle.std.proofs.Common.{◌∙◌, ◌++◌, ◌<◌, ap, length, sym, ℕ, List}
 use Rattle.std.proofs.lemmas.Bool.{leb-false}
 use Rattle.checkpoint.specs.Restore.{Restoring, comes_to}
 use Rattle.checkpoint.specs.Stages.{place_of}
